@@ -1,0 +1,9 @@
+-- The laws about the numbers, a subject a file.
+pub mod Values
+pub mod PatternKinds
+pub mod Ranges
+pub mod Steps
+pub mod Candidates
+pub mod Neighbours
+pub mod Ends
+pub mod Landmarks

@@ -1,0 +1,23 @@
+-- `grid::formats::smallest_normal_pattern` meets its contract. Assumes nothing.
+use borrow.Author.Needs.{needs}
+use Rattle.grid.proofs.Landmarks.{pattern-out-of-range, emin-fits, smallest-normal-pattern-is}
+use Rattle.grid.proofs.formats.smallest_normal_pattern.Statement.{statement}
+use Rattle.grid.proofs.formats.smallest_normal_pattern.Tie as tie
+
+in-range-requires : tie.Need-in-range-requires
+in-range-requires c κs = search needs
+
+sub-power-pattern : tie.Need-sub-power-pattern
+sub-power-pattern c = search emin-fits
+
+power-pattern-requires : tie.Need-power-pattern-requires
+power-pattern-requires c κs = search needs
+
+returns : tie.Need-returns
+returns c = search smallest-normal-pattern-is
+
+returns-2 : tie.Need-returns-2
+returns-2 c = search pattern-out-of-range
+
+pub smallest-normal-pattern-spec : {M : Type 1} → statement M
+smallest-normal-pattern-spec = tie.close (tie.spec in-range-requires sub-power-pattern power-pattern-requires returns returns-2)

@@ -1,0 +1,12 @@
+-- `grid::patterns::magnitude_of` meets its contract. Assumes nothing.
+use mathlib.Core.Path.{refl}
+use Rattle.grid.specs.Patterns.{mag}
+use Rattle.grid.proofs.patterns.magnitude_of.Statement.{statement}
+use Rattle.grid.proofs.patterns.magnitude_of.Tie as tie
+
+returns : tie.Need-returns
+unfolding mag
+returns c = refl
+
+pub magnitude-of-spec : {M : Type 1} → statement M
+magnitude-of-spec = tie.close (tie.spec returns)

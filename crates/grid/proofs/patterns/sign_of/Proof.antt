@@ -1,0 +1,12 @@
+-- `grid::patterns::sign_of` meets its contract. Assumes nothing.
+use mathlib.Core.Path.{refl}
+use Rattle.grid.specs.Patterns.{sign}
+use Rattle.grid.proofs.patterns.sign_of.Statement.{statement}
+use Rattle.grid.proofs.patterns.sign_of.Tie as tie
+
+returns : tie.Need-returns
+unfolding sign
+returns c = refl
+
+pub sign-of-spec : {M : Type 1} → statement M
+sign-of-spec = tie.close (tie.spec returns)

@@ -1,0 +1,70 @@
+-- Binary64 patterns: what a 64-bit number says when it is read by IEEE 754-2019 (document 01, "What the product covers").
+-- The unit is 2^-1074, the smallest positive binary64 number: every finite magnitude is a whole number of units, so 1 is
+-- worth 2^1074 of them. Assumes nothing.
+use mathlib.Core.Bool.{Bool, cond}
+use mathlib.Core.Path.{_≡_}
+use Prim.Native.Nat.{ℕ, zero, suc, _+_, _-_, _*_, _/_, _%_, _^_, _<_, min}
+use lib.Dec.{leb, ltb, eqb}
+use lib.Ieee.{size}
+use Rattle.grid.specs.declared.Kind.{Kind}
+use Rattle.grid.specs.declared.Kind.the-variants.{Zero, Finite, Infinity, NaN}
+
+-- the sign is the top bit: set in a negative number
+unfoldable pub sign : ℕ → Bool
+sign x = leb (2 ^ 63) x
+
+-- the magnitude pattern is what is left without the sign: eleven exponent bits, then 52 fraction bits
+unfoldable pub mag : ℕ → ℕ
+mag x = x % 2 ^ 63
+
+-- the magnitude pattern of infinity: every exponent bit set and no fraction bit
+abbrev pub infinity : ℕ
+infinity = 2047 * 2 ^ 52
+
+-- What a pattern is, whatever its sign: zero where no other bit is set, a finite number up to infinity, infinity itself,
+-- and above it no number.
+unfoldable pub kindOf : ℕ → Kind
+kindOf x = cond (eqb (mag x) 0) Zero (cond (ltb (mag x) infinity) Finite (cond (eqb (mag x) infinity) Infinity NaN))
+
+-- What the two fields are worth together, in units. At exponent field 0 the fraction counts as it stands. Otherwise a one
+-- stands in front of it, and each step of the field doubles the whole.
+unfoldable pub worth : ℕ → ℕ → ℕ
+worth zero fraction = fraction
+worth (suc e) fraction = (2 ^ 52 + fraction) * 2 ^ e
+
+-- the value of a magnitude pattern, in units
+unfoldable pub val : ℕ → ℕ
+val m = worth (m / 2 ^ 52) (m % 2 ^ 52)
+
+-- The same value as one product, sig · 2^ex, with no case for small numbers: the subtraction stops at 0, so where the field
+-- is 0 or 1 the exponent is 0 and the significand is the pattern. `val-product` is the law that joins the two readings.
+abbrev pub ex : ℕ → ℕ
+ex m = m / 2 ^ 52 - 1
+
+abbrev pub sig : ℕ → ℕ
+sig m = m - ex m * 2 ^ 52
+
+-- how many binary digits the value has: `size` is the kit's count, 0 for 0
+unfoldable pub digitsOf : ℕ → ℕ
+digitsOf m = size (val m)
+
+-- A magnitude that binary64 can hold at some exponent: at most 53 digits, and zeros below them.
+pub record Short (n : ℕ) : Type 0 where
+  pub digits : ℕ
+  pub place : ℕ
+  pub few : digits < 2 ^ 53
+  pub is : n ≡ digits * 2 ^ place
+
+-- a magnitude that a finite binary64 number has: short, and below 2^1024
+pub record Binary64 (n : ℕ) : Type 0 where
+  pub short : Short n
+  pub below : n < 2 ^ (1074 + 1024)
+
+-- The magnitude pattern of n units. Digits past the 53rd are counted by the exponent and go. That nothing is lost for a
+-- short n, and that 2^1024 gets infinity's pattern, are laws (`val-pat`, `pat-infinity`).
+unfoldable pub pat : ℕ → ℕ
+pat n = (size n - 53) * 2 ^ 52 + n / 2 ^ (size n - 53)
+
+-- the magnitude pattern of 2^k units: infinity's from 2^1024 on
+unfoldable pub powerPattern : ℕ → ℕ
+powerPattern k = pat (2 ^ min k (1074 + 1024))

@@ -1,0 +1,64 @@
+// A format's settings and the patterns of its landmarks.
+ghost use mathlib.Core.Path.{_≡_};
+ghost use Rattle.grid.specs.Formats.{between, precisionFits, exponentFits, inRange, smallestNormal, xmax, T, patternIn};
+use super::Format;
+use super::patterns::power_pattern;
+
+// Whether n is from least to most.
+fn within(least: u64, n: u64, most: u64) -> bool
+    ensures { λ r. ⌜ r ≡ between least n most ⌝ }
+{
+    least <= n && n <= most
+}
+
+// Whether p is from 2 to 53.
+pub fn precision_fits(p: u64) -> bool
+    ensures { λ r. ⌜ r ≡ precisionFits p ⌝ }
+{
+    within(2, p, 53)
+}
+
+// Whether emax is from 1 to 1023.
+pub fn exponent_fits(emax: u64) -> bool
+    ensures { λ r. ⌜ r ≡ exponentFits emax ⌝ }
+{
+    within(1, emax, 1023)
+}
+
+// Whether both settings of the format fit.
+pub fn in_range(f: Format) -> bool
+    ensures { λ r. ⌜ r ≡ inRange f ⌝ }
+{
+    precision_fits(f.p) && exponent_fits(f.emax)
+}
+
+// The pattern of the smallest normal number, 2^emin; 0 for a format out of range.
+pub fn smallest_normal_pattern(f: Format) -> u64
+    ensures { λ r. ⌜ r ≡ patternIn f (smallestNormal f) ⌝ }
+{
+    if in_range(f) {
+        return power_pattern(1075 - f.emax);
+    }
+    0
+}
+
+// The pattern of T, the next candidate above the largest finite number; 0 for a format out of range.
+pub fn top_pattern(f: Format) -> u64
+    ensures { λ r. ⌜ r ≡ patternIn f (T f) ⌝ }
+{
+    if in_range(f) {
+        return power_pattern(1075 + f.emax);
+    }
+    0
+}
+
+// The pattern of the largest finite number, p ones: the pattern of T less one in the last of the p
+// places; 0 for a format out of range.
+pub fn xmax_pattern(f: Format) -> u64
+    ensures { λ r. ⌜ r ≡ patternIn f (xmax f) ⌝ }
+{
+    if in_range(f) {
+        return top_pattern(f) - (1 << (53 - f.p));
+    }
+    0
+}

@@ -1,0 +1,5 @@
+-- The laws, a subject a file.
+pub mod Digits
+pub mod Steps
+pub mod Tests
+pub mod Words
