@@ -7,3 +7,5 @@ pub mod Candidates
 pub mod Neighbours
 pub mod Ends
 pub mod Landmarks
+pub mod Unique
+pub mod Cases

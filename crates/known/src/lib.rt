@@ -1,1 +1,65 @@
-// known
+// The known formats, looked up by number. The table stands here once; what it must hold is in
+// specs/Table.antt, in the order of document 01.
+ghost use mathlib.Core.Path.{_≡_};
+ghost use Rattle.known.specs.Table.{lookup};
+use grid::Format;
+
+// The answer of a lookup: number 0 and the format, or number 11 and a format of zeros with
+// subnormals off.
+pub struct Lookup {
+    pub number: u64,
+    pub format: Format,
+}
+
+const TABLE: [Format; 6] = [
+    Format {
+        p: 11,
+        emax: 15,
+        sub: true,
+    },
+    Format {
+        p: 8,
+        emax: 127,
+        sub: true,
+    },
+    Format {
+        p: 11,
+        emax: 127,
+        sub: true,
+    },
+    Format {
+        p: 24,
+        emax: 127,
+        sub: true,
+    },
+    Format {
+        p: 53,
+        emax: 1023,
+        sub: true,
+    },
+    Format {
+        p: 3,
+        emax: 15,
+        sub: true,
+    },
+];
+
+// The known format with this number; refused as 11 above the table's end.
+pub fn known_format(known: u64) -> Lookup
+    ensures { λ r. ⌜ r ≡ lookup known ⌝ }
+{
+    if known < 6 {
+        return Lookup {
+            number: 0,
+            format: TABLE[known as usize],
+        };
+    }
+    Lookup {
+        number: 11,
+        format: Format {
+            p: 0,
+            emax: 0,
+            sub: false,
+        },
+    }
+}

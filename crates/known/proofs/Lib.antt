@@ -1,0 +1,3 @@
+-- What the table of known formats holds.
+pub mod Formats
+pub mod Unique

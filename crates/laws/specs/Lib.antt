@@ -1,0 +1,3 @@
+-- The definitions that more than one crate states its facts with.
+pub mod Promises
+pub mod Tables
