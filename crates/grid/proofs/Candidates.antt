@@ -1,27 +1,28 @@
--- Candidates below T are the magnitudes that are whole steps of their own, and each has a binary64 pattern. Assumes nothing.
-use mathlib.Core.Bool.{Bool, true, false, not, cond}
+-- Candidates below T are the magnitudes that are whole steps of their own, and every candidate has a pattern. This file ties
+-- the computed step to document 01's words for a format's numbers. Assumes nothing.
+use mathlib.Core.Bool.{Bool, true, false, cond}
 use mathlib.Core.Path.{_≡_, refl, sym, ap, _∙_, subst}
 use mathlib.Core.Logic.{_⊎_, inl, inr}
-use Prim.Native.Nat.{ℕ, zero, suc, _+_, _-_, _*_, _/_, _^_, _≤_, _<_, zero-le}
-use native.Mathlib.Nat.{le-refl, le-trans, le-antisymm, le-of-lt, div-eq-of-lt, le-of-eq, lt-irrefl, lt-of-lt-of-le, mul-div-cancel, zero-div, zero-mul, one-mul, eq-zero-or-pos, mul-lt-mul-of-pos-right, div-lt-iff-lt-mul, le-div-iff-mul-le, lt-of-not-le, not-le-of-lt}
+use Prim.Native.Nat.{ℕ, suc, _+_, _-_, _*_, _/_, _^_, _≤_, _<_, zero-le}
+use native.Mathlib.Nat.{le-antisymm, le-of-lt, le-of-eq, lt-irrefl, lt-of-lt-of-le, lt-of-not-le, div-eq-of-lt, zero-div, zero-mul, one-mul, eq-zero-or-pos, le-div-iff-mul-le}
 use native.Mathlib.Omega.{arith}
 use lib.Arith.{le-zero}
-use lib.Dec.{lit<, leb, ltb, leb→le, nleb→lt, ltb→lt, nltb→le}
-use lib.Dec.{T as Holds}
+use lib.Dec.{lit<}
 use lib.Pow.{pow-add, pow-pos, pow-mono, shl-lt, shr-lt}
 use lib.Ieee.{size}
-use lib.Ieee.Digits.{size-lt, size-le, size-reaches, back}
-use Rattle.laws.proofs.Digits.{size-is, size-shift, size-first, size-above}
-use Rattle.laws.proofs.Steps.{multiple-whole}
+use lib.Ieee.Digits.{size-lt, size-le, size-reaches}
+use Rattle.laws.proofs.Digits.{size-shift}
+use Rattle.laws.proofs.Multiples.{multiple-whole}
+use Rattle.laws.proofs.Orders.{below-or-not}
 use Rattle.grid.specs.declared.Format.{Format}
 use Rattle.grid.specs.Patterns.{Short, Binary64}
-use Rattle.grid.specs.Formats.{InRange, emin, etop, zetaExp, stepExp, step, T}
+use Rattle.grid.specs.Formats.{InRange, emin, etop, zetaExp, stepExp, step, smallestNormal, T}
 use Rattle.grid.specs.Candidates.{Normal, Subnormal, Candidate}
 use Rattle.grid.specs.Candidates.Candidate.{nothing, normal, subnormal, top}
 use Rattle.grid.specs.Neighbours.{lo}
-use Rattle.grid.proofs.Steps.{emin-room, etop-above, zeta-not-above, zeta-sub, step-normal, step-small, step-keeps}
+use Rattle.grid.proofs.Steps.{emin-room, etop-above, zeta-sub, step-normal, step-small, step-keeps}
 
--- m at a place that is the step's own exponent is whole steps
+-- m at the place that is the step's own exponent is whole steps
 whole-at : (f : Format) (c m k : ℕ) → c ≡ m * 2 ^ k → stepExp f (size c) ≡ k → lo f c ≡ c
 unfolding lo step
 whole-at f c m k is place =
@@ -29,22 +30,35 @@ whole-at f c m k is place =
     ∙ subst (λ (x : ℕ). x / 2 ^ k * 2 ^ k ≡ x) (sym is) (multiple-whole (2 ^ k) m (pow-pos k))
 
 module _ (f : Format) (r : InRange f) where
+  -- ---- from document 01's words to whole steps
+
+  -- a normal number has its first digit at its exponent
+  pub normal-digits : (c : ℕ) (n : Normal f c) → size c ≡ suc (n .e)
+  normal-digits c n =
+      let place = n .e + 1 - f .p in
+      let all : f .p ≡ suc (f .p - 1) = omega arith in
+      ap size (n .is)
+      ∙ size-shift (n .m) (f .p - 1) place (n .full) (subst (λ (k : ℕ). n .m < 2 ^ k) all (n .fits))
+      ∙ omega (arith, emin-room f r)
+
   normal-whole : (c : ℕ) → Normal f c → lo f c ≡ c
   normal-whole c n =
-      let place = n .e + 1 - f .p in
-      let first : f .p - 1 + place ≡ n .e = omega (arith, emin-room f r, n .not-below) in
-      let short : n .m < 2 ^ suc (f .p - 1) = subst (λ (k : ℕ). n .m < 2 ^ k) (omega arith) (n .fits) in
-      let digits : size c ≡ suc (n .e) = ap size (n .is) ∙ size-shift (n .m) (f .p - 1) place (n .full) short ∙ ap suc first in
-      whole-at f c (n .m) place (n .is)
-      (ap (stepExp f) digits ∙ step-normal f (suc (n .e)) (omega (arith, n .not-below)) ∙ omega arith)
+      let reached : emin f < suc (n .e) = omega arith in
+      let place : suc (n .e) - f .p ≡ n .e + 1 - f .p = omega arith in
+      whole-at f c (n .m) (n .e + 1 - f .p) (n .is) (ap (stepExp f) (normal-digits c n) ∙ step-normal f (suc (n .e)) reached ∙ place)
+
+  -- a subnormal number is below the smallest normal one
+  pub subnormal-below : (c : ℕ) → Subnormal f c → c < smallestNormal f
+  unfolding smallestNormal
+  subnormal-below c n =
+      let place = emin f + 1 - f .p in
+      let first : f .p - 1 + place ≡ emin f = omega (arith, emin-room f r) in
+      subst (λ (x : ℕ). x < 2 ^ emin f) (sym (n .is)) (subst (λ (k : ℕ). n .m * 2 ^ place < 2 ^ k) first (shl-lt (f .p - 1) place (n .fits)))
 
   subnormal-whole : (c : ℕ) → Subnormal f c → lo f c ≡ c
+  unfolding smallestNormal
   subnormal-whole c n =
-      let place = emin f + 1 - f .p in
-      let below : c < 2 ^ emin f =
-      subst (λ (x : ℕ). x < 2 ^ emin f) (sym (n .is))
-      (subst (λ (k : ℕ). n .m * 2 ^ place < 2 ^ k) (omega (arith, emin-room f r)) (shl-lt (f .p - 1) place (n .fits))) in
-      whole-at f c (n .m) place (n .is) (step-small f (size c) (size-le c (emin f) below) ∙ zeta-sub f r (n .kept))
+      whole-at f c (n .m) (emin f + 1 - f .p) (n .is) (step-small f (size c) (size-le c (emin f) (subnormal-below c n)) ∙ zeta-sub f r (n .kept))
 
   -- a candidate below T is whole steps of its own
   pub candidate-whole : (c : ℕ) → Candidate f c → c < T f → lo f c ≡ c
@@ -55,14 +69,24 @@ module _ (f : Format) (r : InRange f) where
   candidate-whole c (subnormal n) h = subnormal-whole c n
   candidate-whole c (top t) h = absurd (lt-irrefl c (subst (λ (x : ℕ). c < x) (sym t) h))
 
+  -- T is the last candidate
+  pub candidate-not-above-top : (c : ℕ) → Candidate f c → c ≤ T f
+  unfolding T smallestNormal
+  candidate-not-above-top c (nothing z) = subst (λ (x : ℕ). x ≤ 2 ^ etop f) (sym z) zero-le
+  candidate-not-above-top c (normal n) = le-of-lt (lt-of-lt-of-le (size-lt c) (pow-mono {j = etop f} (omega (arith, normal-digits c n))))
+  candidate-not-above-top c (subnormal n) = le-of-lt (lt-of-lt-of-le (subnormal-below c n) (pow-mono (le-of-lt (etop-above f r))))
+  candidate-not-above-top c (top t) = le-of-eq t
+
+  -- ---- and back
+
   module _ (c : ℕ) (below : c < T f) (k : ℕ) (whole : c / 2 ^ k * 2 ^ k ≡ c) where
-    -- as many whole steps as p digits count, in the normal range
+    -- p digits of whole steps, in the normal range
     normal-of : emin f < size c → size c - f .p ≡ k → Normal f c
     unfolding T
     normal-of reached place =
         let s = size c in
         let counted : f .p + k ≡ s = omega (arith, emin-room f r) in
-        let first : 2 ^ (f .p - 1 + k) ≤ c = size-reaches c (f .p - 1 + k) (omega (arith, r .p-least)) in
+        let first : 2 ^ (f .p - 1 + k) ≤ c = size-reaches c (f .p - 1 + k) (omega arith) in
         record {
           m = c / 2 ^ k;
           e = s - 1;
@@ -73,11 +97,11 @@ module _ (f : Format) (r : InRange f) where
           is = sym whole ∙ ap (λ (x : ℕ). c / 2 ^ k * 2 ^ x) (omega arith);
         }
 
-    -- fewer whole steps below it, where there are subnormals
+    -- fewer digits below it, where there are subnormals
     subnormal-of : 0 < c → size c ≤ emin f → f .sub ≡ true → emin f + 1 - f .p ≡ k → Subnormal f c
     subnormal-of pos small kept place =
-        let counted : f .p - 1 + k ≡ emin f = omega (arith, emin-room f r, r .p-least) in
-        let under : c < 2 ^ (f .p - 1 + k) = subst (λ (x : ℕ). c < 2 ^ x) (sym counted) (lt-of-lt-of-le (size-lt c) (pow-mono small)) in
+        let counted : emin f ≡ f .p - 1 + k = omega (arith, emin-room f r) in
+        let under : c < 2 ^ (f .p - 1 + k) = subst (λ (x : ℕ). c < 2 ^ x) counted (lt-of-lt-of-le (size-lt c) (pow-mono small)) in
         record {
           kept = kept;
           m = c / 2 ^ k;
@@ -89,17 +113,17 @@ module _ (f : Format) (r : InRange f) where
         empty : c / 2 ^ k ≤ 0 → c ≡ 0
         empty none = sym whole ∙ ap (λ (x : ℕ). x * 2 ^ k) (le-zero none) ∙ zero-mul (2 ^ k)
 
-    -- none at all where there are none
+    -- no digit at all where every step is longer than the number
     nothing-of : size c ≤ k → c ≡ 0
     nothing-of small =
         sym whole
         ∙ ap (λ (x : ℕ). x * 2 ^ k) (div-eq-of-lt (lt-of-lt-of-le (size-lt c) (pow-mono small)))
         ∙ zero-mul (2 ^ k)
 
-  -- and a magnitude below T that is whole steps of its own is a candidate
+  -- a magnitude below T that is whole steps of its own is a candidate
   pub whole-candidate : (c : ℕ) → c < T f → lo f c ≡ c → Candidate f c
   unfolding lo step zetaExp
-  whole-candidate c below whole = go (ltb (emin f) (size c)) (ltb→lt (emin f) (size c)) (nltb→le (emin f) (size c))
+  whole-candidate c below whole = go (below-or-not (emin f) (size c))
     where
       at : (k : ℕ) → stepExp f (size c) ≡ k → c / 2 ^ k * 2 ^ k ≡ c
       at k e = subst (λ (j : ℕ). c / 2 ^ j * 2 ^ j ≡ c) e whole
@@ -109,25 +133,11 @@ module _ (f : Format) (r : InRange f) where
       small h true kept place (inr pos) = subnormal (subnormal-of c below (emin f + 1 - f .p) (at (emin f + 1 - f .p) place) pos h kept refl)
       small h false kept place z = nothing (nothing-of c below (emin f) (at (emin f) place) h)
 
-      go : (b : Bool) → (Holds b → emin f < size c) → (Holds (not b) → size c ≤ emin f) → Candidate f c
-      go true n m =
-          let place = step-normal f (size c) (n tt) in
-          normal (normal-of c below (size c - f .p) (at (size c - f .p) place) (n tt) refl)
-      go false n m = small (m tt) (f .sub) refl (step-small f (size c) (m tt)) (eq-zero-or-pos c)
+      go : (emin f < size c) ⊎ (size c ≤ emin f) → Candidate f c
+      go (inl reached) = normal (normal-of c below (size c - f .p) (at (size c - f .p) (step-normal f (size c) reached)) reached refl)
+      go (inr h) = small h (f .sub) refl (step-small f (size c) h) (eq-zero-or-pos c)
 
-  -- T is the last of them
-  pub candidate-not-above-top : (c : ℕ) → Candidate f c → c ≤ T f
-  unfolding T
-  candidate-not-above-top c (nothing z) = subst (λ (x : ℕ). x ≤ 2 ^ etop f) (sym z) zero-le
-  candidate-not-above-top c (normal n) =
-      let place = n .e + 1 - f .p in
-      let most : f .p + place ≤ etop f = omega (arith, emin-room f r, n .not-below, n .not-above) in
-      subst (λ (x : ℕ). x ≤ 2 ^ etop f) (sym (n .is)) (le-trans (le-of-lt (shl-lt (f .p) place (n .fits))) (pow-mono most))
-  candidate-not-above-top c (subnormal n) =
-      let place = emin f + 1 - f .p in
-      let most : f .p - 1 + place ≤ etop f = omega (arith, emin-room f r, etop-above f r) in
-      subst (λ (x : ℕ). x ≤ 2 ^ etop f) (sym (n .is)) (le-trans (le-of-lt (shl-lt (f .p - 1) place (n .fits))) (pow-mono most))
-  candidate-not-above-top c (top t) = le-of-eq t
+  -- ---- every candidate has a pattern
 
   -- whole steps are short enough for binary64
   whole-short : (c : ℕ) → lo f c ≡ c → Short c
@@ -147,10 +157,10 @@ module _ (f : Format) (r : InRange f) where
   unfolding T etop
   top-not-above = pow-mono {i = etop f} {j = 1074 + 1024} (omega arith)
 
-  -- Every candidate is a binary64 magnitude or T, so patterns can hold the answers.
+  -- every candidate is a binary64 magnitude or T, so patterns can hold the answers
   pub candidate-binary64 : (c : ℕ) → Candidate f c → Binary64 c ⊎ (c ≡ T f)
-  candidate-binary64 c x = go (ltb c (T f)) (ltb→lt c (T f)) (nltb→le c (T f))
+  candidate-binary64 c x = go (below-or-not c (T f))
     where
-      go : (b : Bool) → (Holds b → c < T f) → (Holds (not b) → T f ≤ c) → Binary64 c ⊎ (c ≡ T f)
-      go true n m = inl (record { short = whole-short c (candidate-whole c x (n tt)); below = lt-of-lt-of-le (n tt) top-not-above })
-      go false n m = inr (le-antisymm (candidate-not-above-top c x) (m tt))
+      go : (c < T f) ⊎ (T f ≤ c) → Binary64 c ⊎ (c ≡ T f)
+      go (inl below) = inl (record { short = whole-short c (candidate-whole c x below); below = lt-of-lt-of-le below top-not-above })
+      go (inr reached) = inr (le-antisymm (candidate-not-above-top c x) reached)

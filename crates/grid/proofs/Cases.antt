@@ -7,7 +7,6 @@ use mathlib.Core.Path.{_≡_, refl}
 use Prim.Native.Nat.{ℕ, _+_, _-_, _*_, _^_}
 use lib.Ieee.{size}
 use Rattle.grid.specs.declared.Format.{Format}
-use Rattle.grid.specs.declared.Kind.{Kind}
 use Rattle.grid.specs.declared.Kind.the-variants.{Zero, Finite, Infinity, NaN}
 use Rattle.grid.specs.Patterns.{sign, mag, kindOf, worth, val, digitsOf, pat}
 use Rattle.grid.specs.Formats.{between, precisionFits, exponentFits, emin, etop, zetaExp, stepExp, step, smallestNormal, zeta, xmax, T}

@@ -1,20 +1,18 @@
 -- The patterns of a power, of T and of xmax, as the code makes them. Assumes nothing.
-use mathlib.Core.Bool.{Bool, true, false, cond, _&&_}
-use mathlib.Core.Path.{_≡_, refl, sym, ap, _∙_, subst}
+use mathlib.Core.Bool.{Bool, true, false, cond}
+use mathlib.Core.Path.{_≡_, refl, sym, ap, _∙_}
 use mathlib.Core.Logic.{inl, inr}
-use Prim.Native.Nat.{ℕ, suc, _+_, _-_, _*_, _%_, _^_, _≤_, _<_, min}
-use native.Mathlib.Nat.{le-refl, le-trans, le-of-lt, mul-one, mul-assoc, suc-mul, add-sub-of-le}
+use Prim.Native.Nat.{ℕ, _+_, _-_, _*_, _%_, _^_, _≤_, _<_, min}
+use native.Mathlib.Nat.{le-refl, mul-one, mul-assoc, suc-mul, add-sub-of-le}
 use native.Mathlib.Omega.{arith}
-use lib.Pow.{pow-add, pow-pos, pow-mono, suc-ones}
-use borrow.Author.Tests.{leb-true}
+use lib.Pow.{pow-add, pow-mono, suc-ones}
 use mir.Syntax.{w64}
 use mir.Val.{Fits}
 use Rattle.laws.proofs.Words.{one-shifted}
 use Rattle.grid.specs.declared.Format.{Format}
 use Rattle.grid.specs.Patterns.{infinity, pat, powerPattern}
-use Rattle.grid.specs.Formats.{precisionFits, exponentFits, inRange, InRange, emin, etop, smallestNormal, xmax, T, patternIn}
+use Rattle.grid.specs.Formats.{inRange, InRange, emin, etop, smallestNormal, xmax, T, patternIn}
 use Rattle.grid.proofs.Values.{pat-at, pat-infinity}
-use Rattle.grid.proofs.Steps.{emin-room, etop-above}
 use Rattle.grid.proofs.Ranges.{in-range-bounds}
 
 -- ---- powers

@@ -1,18 +1,20 @@
--- Patterns and values: `val` and `pat` undo each other, and the order of patterns is the order of numbers. Assumes nothing.
-use mathlib.Core.Bool.{Bool, true, false, not}
+-- Patterns and values: `val` and `pat` undo each other, and the order of patterns is the order of numbers. The numbers 52
+-- and 53 are binary64's own: these are the laws of the one source format. Assumes nothing.
 use mathlib.Core.Path.{_≡_, refl, sym, ap, ap₂, _∙_, subst}
 use mathlib.Core.Logic.{_⊎_, inl, inr}
 use Prim.Native.Nat.{ℕ, zero, suc, _+_, _-_, _*_, _/_, _%_, _^_, _≤_, _<_}
-use native.Mathlib.Nat.{le-refl, le-trans, le-antisymm, le-of-lt, le-of-eq, lt-trans, lt-irrefl, lt-of-lt-of-le, le-of-suc-le-suc, lt-of-not-le, not-le-of-lt, mul-lt-mul-of-pos-right, mul-div-cancel, mul-one, one-mul, mul-assoc, mul-comm, zero-mul, zero-add, add-zero, div-one, div-add-mod', pow-zero, pow-suc, eq-zero-or-pos, le-div-iff-mul-le}
+use native.Mathlib.Nat.{le-refl, le-antisymm, le-of-lt, lt-trans, lt-irrefl, lt-of-lt-of-le, le-of-suc-le-suc, lt-of-not-le, mul-lt-mul-of-pos-right, mul-div-cancel, mul-one, mul-assoc, zero-add, div-one, div-add-mod', pow-succ', eq-zero-or-pos, eq-or-lt-of-le, le-div-iff-mul-le}
 use native.Mathlib.Omega.{arith}
 use native.Mathlib.Decide.{le-ind}
-use lib.Dec.{T, leb, ltb, leb→le, nleb→lt, ltb→lt, nltb→le}
 use lib.Pow.{pow-add, pow-pos, pow-mono, shl-lt, shr-lt}
 use lib.Ieee.{size}
-use lib.Ieee.Digits.{size-lt, size-le, size-reaches, back}
-use Rattle.laws.proofs.Digits.{size-is, size-shift, size-first}
-use Rattle.laws.proofs.Steps.{multiple-whole}
+use lib.Ieee.Digits.{size-lt, size-le, size-reaches}
+use Rattle.laws.proofs.Digits.{size-shift}
+use Rattle.laws.proofs.Multiples.{zeros-whole}
+use Rattle.laws.proofs.Orders.{below-or-not}
 use Rattle.grid.specs.Patterns.{infinity, worth, val, ex, sig, digitsOf, Short, Binary64, pat}
+
+-- ---- the two readings of a value
 
 -- the two fields' worth as one product: the pattern less its exponent's part is the significand
 worth-product : (field fraction m : ℕ) → field * 2 ^ 52 + fraction ≡ m → worth field fraction ≡ (m - (field - 1) * 2 ^ 52) * 2 ^ (field - 1)
@@ -35,37 +37,35 @@ val-small m h =
     let all : sig m ≡ m = omega arith in
     val-product m ∙ ap₂ (λ (s k : ℕ). s * 2 ^ k) all none ∙ mul-one m
 
--- The value at an exponent e and a significand s: e is 0, or s has all its digits. The significand 2^53 is let in, so that a
--- carry out of the fraction is no special case: it runs into the exponent and is right there.
-pub val-at : (e s : ℕ) → s ≤ 2 ^ 53 → (e ≡ 0) ⊎ (2 ^ 52 ≤ s) → val (e * 2 ^ 52 + s) ≡ s * 2 ^ e
-val-at e s most full = val-product (e * 2 ^ 52 + s) ∙ go (leb (2 ^ 53) s) (leb→le (2 ^ 53) s) (nleb→lt (2 ^ 53) s) full
-  where
-    go : (b : Bool) → (T b → 2 ^ 53 ≤ s) → (T (not b) → s < 2 ^ 53) → (e ≡ 0) ⊎ (2 ^ 52 ≤ s) → sig (e * 2 ^ 52 + s) * 2 ^ ex (e * 2 ^ 52 + s) ≡ s * 2 ^ e
-    go true h k d =
-        let reached = h tt in
-        let carried : ex (e * 2 ^ 52 + s) ≡ suc e = omega arith in
-        let one : sig (e * 2 ^ 52 + s) ≡ 2 ^ 52 = omega arith in
-        let all : s ≡ 2 * 2 ^ 52 = omega arith in
-        ap₂ (λ (a b : ℕ). a * 2 ^ b) one carried ∙ ap (λ (x : ℕ). 2 ^ 52 * x) (pow-suc 2 e ∙ mul-comm (2 ^ e) 2)
-        ∙ sym (mul-assoc (2 ^ 52) 2 (2 ^ e)) ∙ ap (λ (x : ℕ). x * 2 ^ e) (sym all)
-    go false h k (inl z) =
-        let below = k tt in
-        let same : ex (e * 2 ^ 52 + s) ≡ e = omega arith in
-        let kept : sig (e * 2 ^ 52 + s) ≡ s = omega arith in
-        ap₂ (λ (a b : ℕ). a * 2 ^ b) kept same
-    go false h k (inr f) =
-        let below = k tt in
-        let same : ex (e * 2 ^ 52 + s) ≡ e = omega arith in
-        let kept : sig (e * 2 ^ 52 + s) ≡ s = omega arith in
-        ap₂ (λ (a b : ℕ). a * 2 ^ b) kept same
+-- an exponent and a significand as a pattern has them: the exponent is 0, or the significand has all its digits
+abbrev pub Full : ℕ → ℕ → Type 0
+Full e s = (e ≡ 0) ⊎ (2 ^ 52 ≤ s)
 
--- a significand has all its digits, or the exponent is 0
-pub sig-full : (m : ℕ) → (ex m ≡ 0) ⊎ (2 ^ 52 ≤ sig m)
+pub sig-full : (m : ℕ) → Full (ex m) (sig m)
 sig-full m = go (eq-zero-or-pos (ex m))
   where
-    go : (ex m ≡ 0) ⊎ (0 < ex m) → (ex m ≡ 0) ⊎ (2 ^ 52 ≤ sig m)
-    go (inl z) = inl z
-    go (inr p) = inr (omega arith)
+    go : (ex m ≡ 0) ⊎ (0 < ex m) → Full (ex m) (sig m)
+    go (inl none) = inl none
+    go (inr some) = inr (omega arith)
+
+-- The value at an exponent and a significand. The significand 2^53 is let in, so that a carry out of the fraction is no
+-- special case: it runs into the exponent and is right there.
+pub val-at : (e s : ℕ) → s ≤ 2 ^ 53 → Full e s → val (e * 2 ^ 52 + s) ≡ s * 2 ^ e
+val-at e s most full = val-product (e * 2 ^ 52 + s) ∙ go full (eq-or-lt-of-le most)
+  where
+    read : ex (e * 2 ^ 52 + s) ≡ e → sig (e * 2 ^ 52 + s) ≡ s → sig (e * 2 ^ 52 + s) * 2 ^ ex (e * 2 ^ 52 + s) ≡ s * 2 ^ e
+    read same kept = ap₂ (λ (a b : ℕ). a * 2 ^ b) kept same
+
+    go : Full e s → (s ≡ 2 ^ 53) ⊎ (s < 2 ^ 53) → sig (e * 2 ^ 52 + s) * 2 ^ ex (e * 2 ^ 52 + s) ≡ s * 2 ^ e
+    go d (inl all) =
+        let carried : ex (e * 2 ^ 52 + s) ≡ suc e = omega arith in
+        let one : sig (e * 2 ^ 52 + s) ≡ 2 ^ 52 = omega arith in
+        ap₂ (λ (a b : ℕ). a * 2 ^ b) one carried ∙ ap (λ (x : ℕ). 2 ^ 52 * x) (pow-succ' 2 e)
+        ∙ sym (mul-assoc (2 ^ 52) 2 (2 ^ e)) ∙ ap (λ (x : ℕ). x * 2 ^ e) (sym all)
+    go (inl none) (inr below) = read (omega arith) (omega arith)
+    go (inr first) (inr below) = read (omega arith) (omega arith)
+
+-- ---- the order of patterns
 
 -- the next pattern is worth one more in its last place
 pub val-next : (m : ℕ) → val (suc m) ≡ suc (sig m) * 2 ^ ex m
@@ -74,9 +74,9 @@ val-next m = ap val split ∙ val-at (ex m) (suc (sig m)) (omega arith) (go (sig
     split : suc m ≡ ex m * 2 ^ 52 + suc (sig m)
     split = omega arith
 
-    go : (ex m ≡ 0) ⊎ (2 ^ 52 ≤ sig m) → (ex m ≡ 0) ⊎ (2 ^ 52 ≤ suc (sig m))
-    go (inl z) = inl z
-    go (inr f) = inr (omega arith)
+    go : Full (ex m) (sig m) → Full (ex m) (suc (sig m))
+    go (inl none) = inl none
+    go (inr first) = inr (omega arith)
 
 val-climbs : (m : ℕ) → val m < val (suc m)
 val-climbs m =
@@ -87,24 +87,26 @@ val-climbs m =
 pub val-increasing : (m n : ℕ) → m < n → val m < val n
 val-increasing m n h = le-ind (λ (k : ℕ). val m < val k) (val-climbs m) (λ k g below. lt-trans below (val-climbs k)) n h
 
--- and the other way round: what is worth more is a larger pattern
-pub val-order : (m n : ℕ) → val m < val n → m < n
-val-order m n h = lt-of-not-le (λ (g : n ≤ m). not-le-of-lt h (val-not-below n m g))
-  where
-    val-not-below : (n m : ℕ) → n ≤ m → val n ≤ val m
-    val-not-below n m g = le-ind (λ (k : ℕ). val n ≤ val k) (le-refl (val n)) (λ k a b. le-trans b (le-of-lt (val-climbs k))) m g
-
 -- no two patterns are worth the same
 pub val-injective : (m n : ℕ) → val m ≡ val n → m ≡ n
-val-injective m n e =
-    le-antisymm
-    (le-of-suc-le-suc (lt-of-not-le (λ (g : suc n ≤ m). lt-irrefl (val n) (subst (λ (v : ℕ). val n < v) e (val-increasing n m g)))))
-    (le-of-suc-le-suc (lt-of-not-le (λ (g : suc m ≤ n). lt-irrefl (val m) (subst (λ (v : ℕ). val m < v) (sym e) (val-increasing m n g)))))
+val-injective m n e = le-antisymm (not-above m n e) (not-above n m (sym e))
+  where
+    not-above : (m n : ℕ) → val m ≡ val n → m ≤ n
+    not-above m n e = le-of-suc-le-suc (lt-of-not-le (λ (g : n < m). lt-irrefl (val n) (subst (λ (v : ℕ). val n < v) e (val-increasing n m g))))
 
--- the count of digits of a value: the significand's own at exponent 0, and 53 with the exponent's zeros behind them otherwise
+-- what is worth more is a larger pattern
+pub val-order : (m n : ℕ) → val m < val n → m < n
+val-order m n h = lt-of-not-le (λ (g : n ≤ m). go g (eq-or-lt-of-le g))
+  where
+    go : n ≤ m → (n ≡ m) ⊎ (n < m) → ⊥
+    go g (inl e) = lt-irrefl (val m) (subst (λ (k : ℕ). val m < val k) e h)
+    go g (inr l) = lt-irrefl (val m) (lt-trans h (val-increasing n m l))
+
+-- ---- there and back
+
+-- a value with a full significand has 53 digits, and as many more as its exponent says
 pub val-digits : (m : ℕ) → 2 ^ 52 ≤ sig m → size (val m) ≡ 53 + ex m
-val-digits m full =
-    ap size (val-product m) ∙ size-shift (sig m) 52 (ex m) full (omega arith) ∙ omega arith
+val-digits m full = ap size (val-product m) ∙ size-shift (sig m) 52 (ex m) full (omega arith) ∙ omega arith
 
 -- a number of at most 53 digits is its own pattern
 pat-small : (n : ℕ) → size n ≤ 53 → pat n ≡ n
@@ -118,8 +120,8 @@ pub pat-val : (m : ℕ) → pat (val m) ≡ m
 unfolding pat
 pat-val m = go (sig-full m)
   where
-    go : (ex m ≡ 0) ⊎ (2 ^ 52 ≤ sig m) → pat (val m) ≡ m
-    go (inl z) =
+    go : Full (ex m) (sig m) → pat (val m) ≡ m
+    go (inl none) =
         let below : m < 2 ^ 53 = omega arith in
         ap pat (val-small m below) ∙ pat-small m (size-le m 53 below)
     go (inr full) =
@@ -132,33 +134,25 @@ pat-val m = go (sig-full m)
 -- val after pat: nothing of a short number is lost
 pub val-pat : (n : ℕ) → Short n → val (pat n) ≡ n
 unfolding pat
-val-pat n s = go (leb (size n) 53) (leb→le (size n) 53) (nleb→lt (size n) 53)
+val-pat n s = go (below-or-not 53 (size n))
   where
-    go : (b : Bool) → (T b → size n ≤ 53) → (T (not b) → 53 < size n) → val (pat n) ≡ n
-    go true h k =
-        let below : n < 2 ^ 53 = lt-of-lt-of-le (size-lt n) (pow-mono (h tt)) in
-        ap val (pat-small n (h tt)) ∙ val-small n below
-    go false h k =
-        let over = k tt in
-        let e = size n - 53 in
-        let behind : e ≤ s .place = behind-of (size-le n (53 + s .place) (subst (λ (x : ℕ). x < 2 ^ (53 + s .place)) (sym (s .is)) (shl-lt 53 (s .place) (s .few)))) in
-        let whole : n / 2 ^ e * 2 ^ e ≡ n = whole-of e behind in
-        let first : 2 ^ (52 + e) ≤ n = size-reaches n (52 + e) (omega arith) in
-        let below : n < 2 ^ (53 + e) = subst (λ (x : ℕ). n < 2 ^ x) (omega arith) (size-lt n) in
-        val-at e (n / 2 ^ e) (le-of-lt (shr-lt 53 e below))
-        (inr (le-div-iff-mul-le (pow-pos e) .1 (subst (λ (x : ℕ). x ≤ n) (pow-add 2 52 e) first)))
-        ∙ whole
-      where
-        behind-of : size n ≤ 53 + s .place → size n - 53 ≤ s .place
-        behind-of h = omega arith
+    -- the zeros behind a short number's digits reach down to the place that pat cuts at
+    zeros : (e : ℕ) → size n ≡ 53 + e → e ≤ s .place
+    zeros e over =
+        let most = size-le n (53 + s .place) (subst (λ (x : ℕ). x < 2 ^ (53 + s .place)) (sym (s .is)) (shl-lt 53 (s .place) (s .few))) in
+        omega arith
 
-        whole-of : (e : ℕ) → e ≤ s .place → n / 2 ^ e * 2 ^ e ≡ n
-        whole-of e h =
-            subst (λ (x : ℕ). x / 2 ^ e * 2 ^ e ≡ x)
-            (mul-assoc (s .digits) (2 ^ (s .place - e)) (2 ^ e)
-            ∙ ap (λ (x : ℕ). s .digits * x) (sym (pow-add 2 (s .place - e) e) ∙ ap (λ (x : ℕ). 2 ^ x) (back (s .place) e h))
-            ∙ sym (s .is))
-            (multiple-whole (2 ^ e) (s .digits * 2 ^ (s .place - e)) (pow-pos e))
+    long : (e : ℕ) → size n ≡ 53 + e → size n - 53 ≡ e → val (pat n) ≡ n
+    long e over cut =
+        let first : 2 ^ (52 + e) ≤ n = size-reaches n (52 + e) (omega arith) in
+        let below : n < 2 ^ (53 + e) = subst (λ (x : ℕ). n < 2 ^ x) over (size-lt n) in
+        ap (λ (k : ℕ). val (k * 2 ^ 52 + n / 2 ^ k)) cut
+        ∙ val-at e (n / 2 ^ e) (le-of-lt (shr-lt 53 e below)) (inr (le-div-iff-mul-le (pow-pos e) .1 (subst (λ (x : ℕ). x ≤ n) (pow-add 2 52 e) first)))
+        ∙ subst (λ (x : ℕ). x / 2 ^ e * 2 ^ e ≡ x) (sym (s .is)) (zeros-whole (s .digits) e (s .place) (zeros e over))
+
+    go : (53 < size n) ⊎ (size n ≤ 53) → val (pat n) ≡ n
+    go (inl over) = long (size n - 53) (omega arith) refl
+    go (inr small) = ap val (pat-small n small) ∙ val-small n (lt-of-lt-of-le (size-lt n) (pow-mono small))
 
 -- every value is short
 pub val-short : (m : ℕ) → Short (val m)
@@ -188,16 +182,19 @@ pat-increasing m n a b h =
     val-order (pat m) (pat n) (subst (λ (v : ℕ). v < val (pat n)) (sym (val-pat m a)) (subst (λ (v : ℕ). m < v) (sym (val-pat n b)) h))
 
 -- the pattern at an exponent and a significand, as `val-at`
-pub pat-at : (e s : ℕ) → s ≤ 2 ^ 53 → (e ≡ 0) ⊎ (2 ^ 52 ≤ s) → pat (s * 2 ^ e) ≡ e * 2 ^ 52 + s
+pub pat-at : (e s : ℕ) → s ≤ 2 ^ 53 → Full e s → pat (s * 2 ^ e) ≡ e * 2 ^ 52 + s
 pat-at e s most full = ap pat (sym (val-at e s most full)) ∙ pat-val (e * 2 ^ 52 + s)
 
--- how many digits a pattern's value has: a normal number's by its exponent field, any other's by the fraction
+-- ---- counting the digits of a pattern's value
+
+-- a normal number's are counted by its exponent field
 pub digits-normal : (m : ℕ) → 2 ^ 52 ≤ m → m / 2 ^ 52 + 52 ≡ digitsOf m
 unfolding digitsOf
 digits-normal m h =
     let full : 2 ^ 52 ≤ sig m = omega arith in
     omega (arith, val-digits m full)
 
+-- any other's are its fraction's
 pub digits-subnormal : (m : ℕ) → m < 2 ^ 52 → size m ≡ digitsOf m
 unfolding digitsOf
 digits-subnormal m h = ap size (sym (val-small m (omega arith)))

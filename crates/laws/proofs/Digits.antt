@@ -1,7 +1,7 @@
 -- How many binary digits a number has: `size n` of the kit, which is 0 for 0. Assumes nothing.
-use mathlib.Core.Path.{_≡_, refl, sym, ap, _∙_, subst}
+use mathlib.Core.Path.{_≡_, sym, subst}
 use Prim.Native.Nat.{ℕ, zero, suc, _+_, _-_, _*_, _^_, _≤_, _<_, zero-le}
-use native.Mathlib.Nat.{le-refl, le-trans, le-antisymm, lt-of-lt-of-le, lt-of-le-of-lt, le-of-lt, le-of-suc-le-suc, lt-of-not-le, not-le-of-lt, mul-le-mul-right, add-zero, suc-add, pow-succ'}
+use native.Mathlib.Nat.{le-refl, le-antisymm, lt-of-le-of-lt, lt-of-not-le, not-le-of-lt, mul-le-mul-right, suc-add, pow-succ'}
 use native.Mathlib.Omega.{arith}
 use lib.Pow.{pow-add, pow-mono, pow-lt, shl-lt}
 use lib.Count.{leadingZeros, leading-length}
@@ -9,11 +9,11 @@ use lib.Ieee.{size}
 use lib.Ieee.Digits.{size-lt, size-le, size-reaches}
 
 -- exponents are in the order of their powers
-pub pow-below : (i j : ℕ) → 2 ^ i < 2 ^ j → i < j
+pow-below : (i j : ℕ) → 2 ^ i < 2 ^ j → i < j
 pow-below i j h = lt-of-not-le (λ (g : j ≤ i). not-le-of-lt h (pow-mono g))
 
 -- a number that reaches 2^j has more than j digits
-pub size-above : (n j : ℕ) → 2 ^ j ≤ n → j < size n
+size-above : (n j : ℕ) → 2 ^ j ≤ n → j < size n
 size-above n j h = pow-below j (size n) (lt-of-le-of-lt h (size-lt n))
 
 -- from 2^k up to 2^(k + 1) a number has k + 1 digits
@@ -23,10 +23,6 @@ size-is n k least below = le-antisymm (size-le n (suc k) below) (size-above n k 
 -- a number that has a digit has its first one at the place below its count
 pub size-first : (n k : ℕ) → size n ≡ suc k → 2 ^ k ≤ n
 size-first n k e = size-reaches n k (subst (λ (s : ℕ). k < s) (sym e) (le-refl (suc k)))
-
--- a number not above another has no more digits
-pub size-mono : (m n : ℕ) → m ≤ n → size m ≤ size n
-size-mono m n h = size-le m (size n) (lt-of-le-of-lt h (size-lt n))
 
 -- a power has one digit more than its exponent
 pub size-pow : (k : ℕ) → size (2 ^ k) ≡ suc k

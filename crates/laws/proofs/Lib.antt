@@ -1,6 +1,7 @@
 -- The laws, a subject a file.
 pub mod Digits
-pub mod Steps
+pub mod Multiples
+pub mod Orders
 pub mod Tables
 pub mod Tests
 pub mod Words

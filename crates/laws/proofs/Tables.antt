@@ -1,5 +1,5 @@
 -- From a test of a whole table to the rule at each of its entries. Assumes nothing.
-use mathlib.Core.Bool.{Bool, true, _&&_}
+use mathlib.Core.Bool.{Bool, true}
 use mathlib.Core.List.{List, [], _∷_}
 use mathlib.Core.Path.{_≡_}
 use Prim.Native.Nat.{ℕ, zero, suc, _<_}

@@ -1,5 +1,5 @@
 -- Words of w bits, as shifts and masks leave them. Assumes nothing.
-use mathlib.Core.Path.{_≡_, sym, ap, _∙_}
+use mathlib.Core.Path.{_≡_, ap, _∙_}
 use Prim.Native.Nat.{ℕ, _*_, _/_, _%_, _^_, _≤_, _<_}
 use native.Mathlib.Nat.{lt-of-lt-of-le, one-mul, div-eq-of-lt, mod-eq-of-lt}
 use lib.Pow.{pow-mono, pow-lt}
