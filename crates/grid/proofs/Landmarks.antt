@@ -6,8 +6,6 @@ use Prim.Native.Nat.{ℕ, _+_, _-_, _*_, _%_, _^_, _≤_, _<_, min}
 use native.Mathlib.Nat.{le-refl, mul-one, mul-assoc, suc-mul, add-sub-of-le}
 use native.Mathlib.Omega.{arith}
 use lib.Pow.{pow-add, pow-mono, suc-ones}
-use mir.Syntax.{w64}
-use mir.Val.{Fits}
 use Rattle.laws.proofs.Words.{one-shifted}
 use Rattle.grid.specs.declared.Format.{Format}
 use Rattle.grid.specs.Patterns.{infinity, pat, powerPattern}
@@ -65,15 +63,12 @@ module _ (f : Format) (b : Bool) (tested : b ≡ inRange f) where
     r : InRange f
     r = in-range-bounds f (sym tested ∙ passed)
 
-    -- the code's own sums and differences of the settings
-    pub emin-fits : f .emax ≤ 1075
-    emin-fits = omega (arith, r .emax-most)
+    -- the settings are small, so that the code's sums and differences of them fit
+    pub emax-small : f .emax ≤ 1023
+    emax-small = r .emax-most
 
-    pub etop-fits : Fits w64 (1075 + f .emax)
-    etop-fits = record { fits = omega (arith, r .emax-most) }
-
-    pub precision-fits : f .p ≤ 53
-    precision-fits = r .p-most
+    pub precision-small : f .p ≤ 53
+    precision-small = r .p-most
 
     pub smallest-normal-pattern-is : (y : ℕ) → y ≡ powerPattern (1075 - f .emax) → y ≡ patternIn f (smallestNormal f)
     unfolding smallestNormal emin
@@ -105,13 +100,15 @@ module _ (f : Format) (b : Bool) (tested : b ≡ inRange f) where
         places : (p t : ℕ) → p ≤ 53 → 53 ≤ t → 53 - p + (t - 53) ≡ t - p
         places p t h g = omega arith
 
-    -- the last of p places, shifted there
-    last-place : 1 * 2 ^ (53 - f .p) % 2 ^ 64 ≡ 2 ^ (53 - f .p)
-    last-place = one-shifted 64 (53 - f .p) (omega arith)
-
     module _ (y : ℕ) (e : y ≡ patternIn f (T f)) where
-      pub xmax-pattern-is : y - 1 * 2 ^ (53 - f .p) % 2 ^ 64 ≡ patternIn f (xmax f)
-      xmax-pattern-is = omega (arith, last-place, pattern-in-range (T f), pattern-in-range (xmax f), xmax-then-top)
+      -- T's pattern is above any power of up to 62 places that the code takes away from it
+      pub top-pattern-large : (n p : ℕ) → n ≤ 62 → 1 * 2 ^ (n - p) % 2 ^ 64 ≤ y
+      unfolding T etop
+      top-pattern-large n p h =
+          let large : 2 ^ 62 ≤ y = omega (arith, pattern-in-range (T f), power-of (1075 + f .emax) (omega arith)) in
+          let few : 2 ^ (n - p) ≤ 2 ^ 62 = pow-mono {i = n - p} {j = 62} (omega arith) in
+          omega (arith, one-shifted 64 (n - p) (omega arith))
 
-      pub xmax-pattern-fits : 1 * 2 ^ (53 - f .p) % 2 ^ 64 ≤ y
-      xmax-pattern-fits = omega (arith, last-place, pattern-in-range (T f), xmax-then-top)
+      pub xmax-pattern-is : y - 1 * 2 ^ (53 - f .p) % 2 ^ 64 ≡ patternIn f (xmax f)
+      xmax-pattern-is =
+          omega (arith, one-shifted 64 (53 - f .p) (omega arith), pattern-in-range (T f), pattern-in-range (xmax f), xmax-then-top)

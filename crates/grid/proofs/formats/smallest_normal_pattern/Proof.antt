@@ -1,6 +1,8 @@
 -- `grid::formats::smallest_normal_pattern` meets its contract. Assumes nothing.
+use Prim.Native.Nat.{_≤_}
+use native.Mathlib.Omega.{arith}
 use borrow.Author.Needs.{needs}
-use Rattle.grid.proofs.Landmarks.{pattern-out-of-range, emin-fits, smallest-normal-pattern-is}
+use Rattle.grid.proofs.Landmarks.{pattern-out-of-range, emax-small, smallest-normal-pattern-is}
 use Rattle.grid.proofs.formats.smallest_normal_pattern.Statement.{statement}
 use Rattle.grid.proofs.formats.smallest_normal_pattern.Tie as tie
 
@@ -8,7 +10,9 @@ in-range-requires : tie.Need-in-range-requires
 in-range-requires c κs = search needs
 
 sub-power-pattern : tie.Need-sub-power-pattern
-sub-power-pattern c = search emin-fits
+sub-power-pattern c =
+    let small : c .before .before .before .args .f .emax ≤ 1023 = search emax-small in
+    omega arith
 
 power-pattern-requires : tie.Need-power-pattern-requires
 power-pattern-requires c κs = search needs

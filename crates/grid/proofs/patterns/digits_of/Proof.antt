@@ -13,10 +13,10 @@ cast-result : tie.Need-cast-result
 cast-result c = omega (arith, leading-le 64 (c .before .args .m))
 
 sub-result : tie.Need-sub-result
-sub-result c = leading-le 64 (c .before .args .m)
+sub-result c = omega (arith, leading-le 64 (c .before .args .m))
 
 returns : tie.Need-returns
-returns c = size-leading 64 (c .before .args .m) (omega arith) ∙ digits-subnormal (c .before .args .m) (c .if1 .taken)
+returns c = size-leading 64 (c .before .args .m) (omega arith) ∙ digits-subnormal (c .before .args .m) (omega arith)
 
 add-result : tie.Need-add-result
 add-result c = search needs
