@@ -3,7 +3,7 @@ use mathlib.Core.Bool.{Bool, true, false, cond}
 use mathlib.Core.Path.{_≡_, refl, sym, ap, _∙_}
 use mathlib.Core.Logic.{inl, inr}
 use Prim.Native.Nat.{ℕ, _+_, _-_, _*_, _%_, _^_, _≤_, _<_, min}
-use native.Mathlib.Nat.{le-refl, mul-one, mul-assoc, suc-mul, add-sub-of-le}
+use native.Mathlib.Nat.{le-refl, le-trans, mul-le-mul, mod-le, mul-one, mul-assoc, suc-mul, add-sub-of-le}
 use native.Mathlib.Omega.{arith}
 use lib.Pow.{pow-add, pow-mono, suc-ones}
 use Rattle.laws.proofs.Words.{one-shifted}
@@ -101,13 +101,13 @@ module _ (f : Format) (b : Bool) (tested : b ≡ inRange f) where
         places p t h g = omega arith
 
     module _ (y : ℕ) (e : y ≡ patternIn f (T f)) where
-      -- T's pattern is above any power of up to 62 places that the code takes away from it
-      pub top-pattern-large : (n p : ℕ) → n ≤ 62 → 1 * 2 ^ (n - p) % 2 ^ 64 ≤ y
+      -- T's pattern is above anything up to 2^61, so the code may take it away
+      pub top-pattern-large : (c n p : ℕ) → c ≤ 2 → n ≤ 60 → c * 2 ^ (n - p) % 2 ^ 64 ≤ y
       unfolding T etop
-      top-pattern-large n p h =
-          let large : 2 ^ 62 ≤ y = omega (arith, pattern-in-range (T f), power-of (1075 + f .emax) (omega arith)) in
-          let few : 2 ^ (n - p) ≤ 2 ^ 62 = pow-mono {i = n - p} {j = 62} (omega arith) in
-          omega (arith, one-shifted 64 (n - p) (omega arith))
+      top-pattern-large c n p few short =
+          let large : 2 ^ 61 ≤ y = omega (arith, pattern-in-range (T f), power-of (1075 + f .emax) (omega arith)) in
+          let least : 2 ^ (n - p) ≤ 2 ^ 60 = pow-mono {i = n - p} {j = 60} (omega arith) in
+          le-trans (mod-le (c * 2 ^ (n - p)) (2 ^ 64)) (le-trans (mul-le-mul few least) large)
 
       pub xmax-pattern-is : y - 1 * 2 ^ (53 - f .p) % 2 ^ 64 ≡ patternIn f (xmax f)
       xmax-pattern-is =

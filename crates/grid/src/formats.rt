@@ -4,6 +4,9 @@ ghost use Rattle.grid.specs.Formats.{between, precisionFits, exponentFit
 use super::Format;
 use super::patterns::power_pattern;
 
+// What a format out of range gets for the pattern of a landmark.
+const NO_PATTERN: u64 = 0;
+
 // Whether n is from least to most.
 fn within(least: u64, n: u64, most: u64) -> bool
     ensures { λ r. ⌜ r ≡ between least n most ⌝ }
@@ -39,7 +42,7 @@ pub fn smallest_normal_pattern(f: Format) -> u64
     if in_range(f) {
         return power_pattern(1075 - f.emax);
     }
-    0
+    NO_PATTERN
 }
 
 // The pattern of T, the next candidate above the largest finite number; 0 for a format out of range.
@@ -49,7 +52,7 @@ pub fn top_pattern(f: Format) -> u64
     if in_range(f) {
         return power_pattern(1075 + f.emax);
     }
-    0
+    NO_PATTERN
 }
 
 // The pattern of the largest finite number, p ones: the pattern of T less one in the last of the p
@@ -60,5 +63,5 @@ pub fn xmax_pattern(f: Format) -> u64
     if in_range(f) {
         return top_pattern(f) - (1 << (53 - f.p));
     }
-    0
+    NO_PATTERN
 }

@@ -45,10 +45,11 @@ pub fn kind_of(x: u64) -> Kind
 pub fn exponent_of(m: u64) -> u64
     ensures { λ r. ⌜ r ≡ ex m ⌝ }
 {
-    if m < HIDDEN {
+    let field = m >> 52;
+    if field == 0 {
         return 0;
     }
-    (m >> 52) - 1
+    field - 1
 }
 
 // The significand, with the one that stands in front of a normal number's fraction.
