@@ -1,9 +1,12 @@
 #!/usr/bin/env bash
-# Each must-fail edit has to be refused because what a function promises no longer holds as it
-# returns, and not because its proof file no longer fits the code. After rt ci or rt must-fail the
-# prover's words on each edit stand in target/must-fail/CRATE/LABEL/.log, and the first complaint
-# there has to be about a need named `returns`, `returns-2`, ...
+# Each must-fail edit has to be refused at a promise: the prover's first complaint is about a need
+# named `returns`, `returns-2`, .., and not about a sum that may not fit or a proof file that no
+# longer has the right needs. That the edited answer is wrong, and not only another way to the right
+# one, the prover cannot say: the edit's first line has to name the rule that it breaks.
+# The prover's words on each edit stand in target/must-fail/CRATE/LABEL/.log after rt ci or
+# rt must-fail.
 set -euo pipefail
+unset CDPATH
 cd "$(dirname "$0")/.."
 
 tried=0 unfit=0
@@ -15,11 +18,15 @@ for edit in crates/*/must-fail/*.edit; do
         exit 1
     fi
     tried=$((tried + 1))
+    head -n 1 "$edit" | grep -q '^# .' || {
+        echo "$edit: its first line does not name the rule that it breaks" >&2
+        unfit=$((unfit + 1))
+    }
     first=$(grep -m 1 -E ': error|^note: .*: it is not proved that' "$log" || true)
     if ! [[ $first =~ (error:\ |\()\`returns(-[0-9]+)?\` ]]; then
-        echo "$edit: refused for another reason than a promise: ${first:-nothing was said}" >&2
+        echo "$edit: refused, but not at a promise: ${first:-nothing was said}" >&2
         unfit=$((unfit + 1))
     fi
 done
-echo "edits that break a promise: $((tried - unfit)) of $tried"
+echo "must-fail edits refused at a promise: $tried tried, $unfit unfit"
 [ "$tried" -gt 0 ] && [ "$unfit" -eq 0 ]

@@ -1,11 +1,14 @@
 #!/usr/bin/env bash
-# docs/PROMISES.md has a row for every function that another crate can call, with its uniqueness
-# fact and its must-fail edits; and it names no function, fact, law or edit that is not there.
+# docs/PROMISES.md has a row for every function that another crate can call, with that function's
+# uniqueness fact and at least two wrong answers that it rules out; it lists every must-fail edit;
+# and it names no function, fact, law, file or edit that is not there.
 set -euo pipefail
+unset CDPATH
 cd "$(dirname "$0")/.."
 
 page=docs/PROMISES.md
 named=$(grep -o '`[^` ]*`' "$page" | tr -d '`' | sort -u)
+rows=$(grep -E '^\| `[a-z0-9_]+` \|' "$page")
 wrong=0
 
 complain() {
@@ -13,23 +16,28 @@ complain() {
     wrong=$((wrong + 1))
 }
 
-is_named() { grep -qxF -- "$1" <<<"$named"; }
+# a row: function | refuses | answer | definition | unique | ruled out
+while IFS='|' read -r _ function _ _ _ unique ruled_out _; do
+    function=$(tr -d '` ' <<<"$function")
+    [ "$(tr -d '` ' <<<"$unique")" = "${function//_/-}-unique" ] ||
+        complain "the row of $function names another uniqueness fact"
+    [ "$(grep -o '`[^`]*`' <<<"$ruled_out" | sort -u | wc -l)" -ge 2 ] ||
+        complain "the row of $function rules out fewer than two wrong answers"
+done <<<"$rows"
 
 functions=0
 while read -r name; do
     functions=$((functions + 1))
-    is_named "$name" || complain "no row for the function $name"
-    is_named "${name//_/-}-unique" || complain "no uniqueness fact for the function $name"
+    grep -q "^| \`$name\` |" <<<"$rows" || complain "no row for the function $name"
 done < <(grep -rhoE '^ *pub (extern "C" )?fn [a-z0-9_]+' crates/*/src | awk '{ print $NF }' | sort -u)
 
 edits=0
 for edit in crates/*/must-fail/*.edit; do
     edits=$((edits + 1))
-    is_named "$(basename "$edit" .edit)" || complain "no word of the edit $edit"
-    grep -q '^# .' "$edit" || complain "the edit $edit does not say which rule it breaks"
+    grep -qxF -- "$(basename "$edit" .edit)" <<<"$named" || complain "no word of the edit $edit"
 done
 
-# whatever the page names is declared: a function, an edit, a crate, a file, or a name of specs/ or proofs/
+# what the page names is a file, a crate, an edit, a function, or a name of specs/ or proofs/
 while read -r name; do
     [ -e "$name" ] && continue
     [ -e "crates/$name" ] && continue
@@ -39,5 +47,5 @@ while read -r name; do
     complain "$name is named, and nothing of that name is there"
 done <<<"$named"
 
-echo "promises: $functions functions, $edits edits listed"
+echo "promises listed: $functions functions, $edits edits, $wrong complaints"
 [ "$functions" -gt 0 ] && [ "$edits" -gt 0 ] && [ "$wrong" -eq 0 ]

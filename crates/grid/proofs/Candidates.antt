@@ -145,19 +145,19 @@ module _ (f : Format) (r : InRange f) where
   whole-short c whole =
       let k = stepExp f (size c) in
       let kept : c < 2 ^ (f .p + k) = lt-of-lt-of-le (size-lt c) (pow-mono (step-keeps f r (size c))) in
-      record { digits = c / 2 ^ k; place = k; few = lt-of-lt-of-le (shr-lt (f .p) k kept) (pow-mono (r .p-most)); is = sym whole }
+      record { m = c / 2 ^ k; place = k; fits = lt-of-lt-of-le (shr-lt (f .p) k kept) (pow-mono (r .p-most)); is = sym whole }
 
   -- so is T
   pub top-short : Short (T f)
   unfolding T
-  top-short = record { digits = 1; place = etop f; few = lit< tt; is = sym (one-mul (2 ^ etop f)) }
+  top-short = record { m = 1; place = etop f; fits = lit< tt; is = sym (one-mul (2 ^ etop f)) }
 
   -- T is at most 2^1024
   pub top-not-above : T f ≤ 2 ^ (1074 + 1024)
   unfolding T etop
   top-not-above = pow-mono {i = etop f} {j = 1074 + 1024} (omega arith)
 
-  -- every candidate is a binary64 magnitude or T, so patterns can hold the answers
+  -- a candidate is T or a magnitude that a finite binary64 number has, so every answer has a pattern
   pub candidate-binary64 : (c : ℕ) → Candidate f c → Binary64 c ⊎ (c ≡ T f)
   candidate-binary64 c x = go (below-or-not c (T f))
     where

@@ -55,11 +55,11 @@ exponents = refl
 
 -- ---- the six known formats
 
-abbrev format : ℕ → ℕ → Bool → Format
+abbrev pub format : ℕ → ℕ → Bool → Format
 format p emax sub = record { p = p; emax = emax; sub = sub }
 
 -- binary16, bfloat16, TensorFloat-32, binary32, binary64, E5M2
-abbrev formats : List Format
+abbrev pub formats : List Format
 formats = format 11 15 true ∷ format 8 127 true ∷ format 11 127 true ∷ format 24 127 true ∷ format 53 1023 true ∷ format 3 15 true ∷ []
 
 -- zeta, the smallest normal number, xmax and T of a format

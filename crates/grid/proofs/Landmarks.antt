@@ -101,7 +101,8 @@ module _ (f : Format) (b : Bool) (tested : b ≡ inRange f) where
         places p t h g = omega arith
 
     module _ (y : ℕ) (e : y ≡ patternIn f (T f)) where
-      -- T's pattern is above anything up to 2^61, so the code may take it away
+      -- T's pattern is above anything up to 2^61, so the code may take it away. The law allows for more than the code takes,
+      -- so that a wrong amount is refused at the answer and not at the subtraction.
       pub top-pattern-large : (c n p : ℕ) → c ≤ 2 → n ≤ 60 → c * 2 ^ (n - p) % 2 ^ 64 ≤ y
       unfolding T etop
       top-pattern-large c n p few short =

@@ -30,7 +30,7 @@ module _ (least n most : ℕ) where
   pub between-both : least ≤ n → n ≤ most → between least n most ≡ true
   between-both h g = sym (between-asked h) ∙ le-leb n most g
 
--- a format is in range where both its settings are: emax is asked for only where p fits
+-- a format is in range where p and emax are: emax is asked for only where p fits
 module _ (f : Format) (a : Bool) (fits : a ≡ precisionFits (f .p)) where
   pub in-range-asked : (b : Bool) → b ≡ exponentFits (f .emax) → a ≡ true → b ≡ inRange f
   unfolding inRange

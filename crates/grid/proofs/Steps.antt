@@ -47,12 +47,12 @@ module _ (f : Format) (r : InRange f) where
   unfolding emin etop
   etop-above = omega arith
 
-  -- with subnormals zeta is p digits below the smallest normal number's first digit
+  -- with subnormals zeta is p - 1 places below the smallest normal number
   pub zeta-sub : f .sub ≡ true → zetaExp f ≡ emin f + 1 - f .p
   unfolding zetaExp
   zeta-sub kept = ap (λ (b : Bool). cond b (emin f + 1 - f .p) (emin f)) kept
 
-  -- zeta is not above the smallest normal number, and at most p digits below it
+  -- zeta is not above the smallest normal number, and fewer than p places below it
   pub zeta-not-above : zetaExp f ≤ emin f
   unfolding zetaExp
   zeta-not-above = go (f .sub)

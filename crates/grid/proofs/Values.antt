@@ -48,8 +48,8 @@ sig-full m = go (eq-zero-or-pos (ex m))
     go (inl none) = inl none
     go (inr some) = inr (omega arith)
 
--- The value at an exponent and a significand. The significand 2^53 is let in, so that a carry out of the fraction is no
--- special case: it runs into the exponent and is right there.
+-- The value at an exponent and a significand. The significand 2^53 is let in: a carry out of the fraction raises the
+-- exponent by one, and the value is right.
 pub val-at : (e s : ℕ) → s ≤ 2 ^ 53 → Full e s → val (e * 2 ^ 52 + s) ≡ s * 2 ^ e
 val-at e s most full = val-product (e * 2 ^ 52 + s) ∙ go full (eq-or-lt-of-le most)
   where
@@ -139,7 +139,7 @@ val-pat n s = go (below-or-not 53 (size n))
     -- the zeros behind a short number's digits reach down to the place that pat cuts at
     zeros : (e : ℕ) → size n ≡ 53 + e → e ≤ s .place
     zeros e over =
-        let most = size-le n (53 + s .place) (subst (λ (x : ℕ). x < 2 ^ (53 + s .place)) (sym (s .is)) (shl-lt 53 (s .place) (s .few))) in
+        let most = size-le n (53 + s .place) (subst (λ (x : ℕ). x < 2 ^ (53 + s .place)) (sym (s .is)) (shl-lt 53 (s .place) (s .fits))) in
         omega arith
 
     long : (e : ℕ) → size n ≡ 53 + e → size n - 53 ≡ e → val (pat n) ≡ n
@@ -148,7 +148,7 @@ val-pat n s = go (below-or-not 53 (size n))
         let below : n < 2 ^ (53 + e) = subst (λ (x : ℕ). n < 2 ^ x) over (size-lt n) in
         ap (λ (k : ℕ). val (k * 2 ^ 52 + n / 2 ^ k)) cut
         ∙ val-at e (n / 2 ^ e) (le-of-lt (shr-lt 53 e below)) (inr (le-div-iff-mul-le (pow-pos e) .1 (subst (λ (x : ℕ). x ≤ n) (pow-add 2 52 e) first)))
-        ∙ subst (λ (x : ℕ). x / 2 ^ e * 2 ^ e ≡ x) (sym (s .is)) (zeros-whole (s .digits) e (s .place) (zeros e over))
+        ∙ subst (λ (x : ℕ). x / 2 ^ e * 2 ^ e ≡ x) (sym (s .is)) (zeros-whole (s .m) e (s .place) (zeros e over))
 
     go : (53 < size n) ⊎ (size n ≤ 53) → val (pat n) ≡ n
     go (inl over) = long (size n - 53) (omega arith) refl
@@ -156,7 +156,7 @@ val-pat n s = go (below-or-not 53 (size n))
 
 -- every value is short
 pub val-short : (m : ℕ) → Short (val m)
-val-short m = record { digits = sig m; place = ex m; few = omega arith; is = val-product m }
+val-short m = record { m = sig m; place = ex m; fits = omega arith; is = val-product m }
 
 -- infinity's pattern stands where 2^1024 would
 pub val-infinity : val infinity ≡ 2 ^ (1074 + 1024)

@@ -1,5 +1,6 @@
 -- What a format holds: the magnitudes among which lo and hi are found, 0 and T with them (document 01, "The target format"
--- and "Rounding one pattern"). They are given as a property, in that document's words. Units of 2^-1074. Assumes nothing.
+-- and "Rounding one pattern"), as a property of a number. Units of 2^-1074, and exponents counted from there, as in
+-- Formats.antt. Assumes nothing.
 use mathlib.Core.Bool.{true}
 use mathlib.Core.Path.{_≡_}
 use Prim.Native.Nat.{ℕ, _+_, _-_, _*_, _^_, _≤_, _<_}
@@ -24,7 +25,7 @@ pub record Subnormal (f : Format) (c : ℕ) : Type 0 where
   pub fits : m < 2 ^ (f .p - 1)
   pub is : c ≡ m * 2 ^ (emin f + 1 - f .p)
 
--- 0, the target's magnitudes, T
+-- a candidate is 0, a number of the format, or T
 pub data Candidate (f : Format) (c : ℕ) : Type 0 where
   nothing : c ≡ 0 → Candidate f c
   normal : Normal f c → Candidate f c

@@ -1,7 +1,7 @@
--- The target format and the few numbers that follow from its settings (document 01, "The target format"). Only the names of
--- this file compute from p and emax: everything above goes by these names.
--- Magnitudes are in units of 2^-1074, and an exponent is the exponent of that many units: 2^e is 2^(e + 1074) units.
--- Assumes nothing.
+-- The target format and the few numbers that follow from its settings (document 01, "The target format"). Among the
+-- definitions only this file and Candidates.antt look at p and emax: what comes after goes by the names of this one.
+-- Magnitudes are in units of 2^-1074. Exponents are counted from there too: document 01's e is written e + 1074, so that
+-- emin = 1 - emax is 1075 - emax (decision 1). Assumes nothing.
 use mathlib.Core.Bool.{Bool, cond, _&&_}
 use Prim.Native.Nat.{ℕ, _+_, _-_, _*_, _^_, _≤_}
 use lib.Dec.{leb, ltb}
@@ -21,7 +21,7 @@ precisionFits p = between 2 p 53
 unfoldable pub exponentFits : ℕ → Bool
 exponentFits emax = between 1 emax 1023
 
--- a format is one of ours where both settings fit
+-- a format is one of ours where p and emax fit
 unfoldable pub inRange : Format → Bool
 inRange f = precisionFits (f .p) && exponentFits (f .emax)
 
@@ -32,43 +32,43 @@ pub record InRange (f : Format) : Type 0 where
   pub emax-least : 1 ≤ f .emax
   pub emax-most : f .emax ≤ 1023
 
--- emin = 1 - emax, the exponent of the smallest normal number
+-- emin = 1 - emax, the smallest normal exponent
 unfoldable pub emin : Format → ℕ
 emin f = 1075 - f .emax
-
--- emax + 1, the exponent of T
-unfoldable pub etop : Format → ℕ
-etop f = 1075 + f .emax
-
--- the exponent of zeta: emin - p + 1 with subnormals, emin without
-unfoldable pub zetaExp : Format → ℕ
-zetaExp f = cond (f .sub) (emin f + 1 - f .p) (emin f)
-
--- The exponent of the step between neighbours, by the magnitude's count s of digits: a normal number keeps p of them, and
--- below the smallest normal number the step is zeta throughout.
-unfoldable pub stepExp : Format → ℕ → ℕ
-stepExp f s = cond (ltb (emin f) s) (s - f .p) (zetaExp f)
-
--- the step at a magnitude
-unfoldable pub step : Format → ℕ → ℕ
-step f a = 2 ^ stepExp f (size a)
 
 -- the smallest normal number
 unfoldable pub smallestNormal : Format → ℕ
 smallestNormal f = 2 ^ emin f
 
--- the smallest positive number
+-- the exponent of zeta: emin - p + 1 with subnormals, emin without
+unfoldable pub zetaExp : Format → ℕ
+zetaExp f = cond (f .sub) (emin f + 1 - f .p) (emin f)
+
+-- zeta, the smallest positive number
 unfoldable pub zeta : Format → ℕ
 zeta f = 2 ^ zetaExp f
 
--- the largest finite number: p ones, the first of them at emax
+-- the exponent of T, emax + 1
+unfoldable pub etop : Format → ℕ
+etop f = 1075 + f .emax
+
+-- xmax, the largest finite number, 2^emax · (2 - 2^(1-p)): p ones, the first of them just below T
 unfoldable pub xmax : Format → ℕ
 xmax f = (2 ^ f .p - 1) * 2 ^ (etop f - f .p)
 
--- what stands in as the next candidate above xmax
+-- T, the number that would follow xmax if the exponents went on
 unfoldable pub T : Format → ℕ
 T f = 2 ^ etop f
 
--- The pattern of a magnitude that belongs to a format, and 0 where the format is out of range and has none.
+-- The exponent of the step from one neighbour to the next, by the magnitude's count s of digits. A magnitude reaches the
+-- smallest normal number where s is above emin: there p digits are kept. Below that the step is zeta throughout (decision 5).
+unfoldable pub stepExp : Format → ℕ → ℕ
+stepExp f s = cond (ltb (emin f) s) (s - f .p) (zetaExp f)
+
+-- the step at a magnitude: document 01's G
+unfoldable pub step : Format → ℕ → ℕ
+step f a = 2 ^ stepExp f (size a)
+
+-- the pattern of a magnitude that belongs to a format, and 0 where the format is out of range and has none (decision 7)
 unfoldable pub patternIn : Format → ℕ → ℕ
 patternIn f n = cond (inRange f) (pat n) 0

@@ -1,5 +1,5 @@
--- A number cut in two at a binary place: the digits from the place on, and those below it. Clearing the digits below the
--- last kept place is how lo is found (document 01, "Rounding one pattern"). Assumes nothing.
+-- A number cut in two at a binary place, counted from 0 at the last digit: what stands from the place on, and what stands
+-- below it. lo is found by such a cut (document 01, "Rounding one pattern"). Assumes nothing.
 use Prim.Native.Nat.{ℕ, _/_, _%_, _^_}
 
 -- the high part: the digits of n from place d on

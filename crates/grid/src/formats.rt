@@ -28,7 +28,7 @@ pub fn exponent_fits(emax: u64) -> bool
     within(1, emax, 1023)
 }
 
-// Whether both settings of the format fit.
+// Whether the format's p and emax fit.
 pub fn in_range(f: Format) -> bool
     ensures { λ r. ⌜ r ≡ inRange f ⌝ }
 {

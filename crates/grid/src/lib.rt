@@ -1,6 +1,6 @@
-// What the numbers are: binary64 patterns and magnitudes, target formats, and the places at which a
-// number is cut. The definitions that the contracts cite are in specs/; start with
-// specs/Patterns.antt. Every function here is total.
+// Reading binary64 patterns, cutting a number at a place, and a target format's range and landmarks.
+// The contracts cite the definitions in specs/; start with specs/Lib.antt. Every function here
+// answers for all inputs.
 mod formats;
 mod patterns;
 mod places;
@@ -29,7 +29,7 @@ pub struct Format {
     pub sub: bool,
 }
 
-// What a binary64 pattern is, whatever its sign.
+// What a binary64 pattern is, whatever its sign. Finite leaves out zero.
 pub enum Kind {
     Zero,
     Finite,

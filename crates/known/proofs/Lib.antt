@@ -1,3 +1,4 @@
 -- What the table of known formats holds.
+pub mod Cases
 pub mod Formats
 pub mod Unique

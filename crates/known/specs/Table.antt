@@ -8,12 +8,19 @@ use Rattle.grid.specs.declared.Format.{Format}
 use Rattle.known.specs.declared.Lookup.{Lookup}
 
 -- a format by its precision and its largest exponent, with subnormals
-abbrev pub kept : ℕ → ℕ → Format
-kept p emax = record { p = p; emax = emax; sub = true }
+abbrev pub withSubnormals : ℕ → ℕ → Format
+withSubnormals p emax = record { p = p; emax = emax; sub = true }
 
--- the table, by number from 0: binary16, bfloat16, TensorFloat-32, binary32, binary64, E5M2
+-- the table, a format a line by its number
 abbrev pub formats : List Format
-formats = kept 11 15 ∷ kept 8 127 ∷ kept 11 127 ∷ kept 24 127 ∷ kept 53 1023 ∷ kept 3 15 ∷ []
+formats =
+    withSubnormals 11 15  -- 0: binary16
+    ∷ withSubnormals 8 127  -- 1: bfloat16
+    ∷ withSubnormals 11 127  -- 2: TensorFloat-32
+    ∷ withSubnormals 24 127  -- 3: binary32
+    ∷ withSubnormals 53 1023  -- 4: binary64
+    ∷ withSubnormals 3 15  -- 5: E5M2, by IEEE's rules
+    ∷ []
 
 -- what stands in where there is no format
 abbrev pub none : Format

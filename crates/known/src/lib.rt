@@ -12,31 +12,37 @@ pub struct Lookup {
 }
 
 const TABLE: [Format; 6] = [
+    // 0: binary16
     Format {
         p: 11,
         emax: 15,
         sub: true,
     },
+    // 1: bfloat16
     Format {
         p: 8,
         emax: 127,
         sub: true,
     },
+    // 2: TensorFloat-32
     Format {
         p: 11,
         emax: 127,
         sub: true,
     },
+    // 3: binary32
     Format {
         p: 24,
         emax: 127,
         sub: true,
     },
+    // 4: binary64
     Format {
         p: 53,
         emax: 1023,
         sub: true,
     },
+    // 5: E5M2, by IEEE's rules
     Format {
         p: 3,
         emax: 15,

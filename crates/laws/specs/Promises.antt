@@ -2,7 +2,7 @@
 -- lifetimes, the arguments, the result and the lent parameters as the function returns. Assumes nothing.
 use mathlib.Core.Path.{_≡_}
 
--- one answer: two results that the promise allows for the same arguments are equal
+-- one answer: two results that the promise allows for the same arguments are equal (lent parameters are not compared)
 abbrev pub OneAnswer : {Lifetimes : Type 0} {Arguments Result Lent : Lifetimes → Type 0}
     → ((κs : Lifetimes) → Arguments κs → Result κs → Lent κs → Type 0) → Type 0
 OneAnswer {Lifetimes} {Arguments} {Result} {Lent} Post =
