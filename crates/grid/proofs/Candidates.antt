@@ -1,18 +1,17 @@
 -- Candidates below T are the magnitudes that are whole steps of their own, and every candidate has a pattern. This file ties
 -- the computed step to document 01's words for a format's numbers. Assumes nothing.
-use mathlib.Core.Bool.{Bool, true, false, cond}
+use mathlib.Core.Bool.{Bool, true, false}
 use mathlib.Core.Path.{_≡_, refl, sym, ap, _∙_, subst}
 use mathlib.Core.Logic.{_⊎_, inl, inr}
 use Prim.Native.Nat.{ℕ, suc, _+_, _-_, _*_, _/_, _^_, _≤_, _<_, zero-le}
-use native.Mathlib.Nat.{le-antisymm, le-of-lt, le-of-eq, lt-irrefl, lt-of-lt-of-le, lt-of-not-le, div-eq-of-lt, zero-div, zero-mul, one-mul, eq-zero-or-pos, le-div-iff-mul-le}
+use native.Mathlib.Nat.{le-antisymm, le-of-lt, le-of-eq, lt-irrefl, lt-of-lt-of-le, lt-of-le-of-lt, lt-of-not-le, zero-mul, eq-zero-or-pos, le-div-iff-mul-le}
 use native.Mathlib.Omega.{arith}
 use lib.Arith.{le-zero}
-use lib.Dec.{lit<}
 use lib.Pow.{pow-add, pow-pos, pow-mono, shl-lt, shr-lt}
 use lib.Ieee.{size}
 use lib.Ieee.Digits.{size-lt, size-le, size-reaches}
-use Rattle.laws.proofs.Digits.{size-shift}
-use Rattle.laws.proofs.Multiples.{multiple-whole}
+use Rattle.laws.proofs.Digits.{size-shift, size-pow}
+use Rattle.laws.proofs.Multiples.{multiple-whole, multiple-none, pow-whole}
 use Rattle.laws.proofs.Orders.{below-or-not}
 use Rattle.grid.specs.declared.Format.{Format}
 use Rattle.grid.specs.Patterns.{Short, Binary64}
@@ -20,14 +19,13 @@ use Rattle.grid.specs.Formats.{InRange, emin, etop, zetaExp, stepExp, st
 use Rattle.grid.specs.Candidates.{Normal, Subnormal, Candidate}
 use Rattle.grid.specs.Candidates.Candidate.{nothing, normal, subnormal, top}
 use Rattle.grid.specs.Neighbours.{lo}
-use Rattle.grid.proofs.Steps.{emin-room, etop-above, zeta-sub, step-normal, step-small, step-keeps}
+use Rattle.grid.proofs.Steps.{emin-room, etop-above, zeta-sub, zeta-no-sub, below-top-digits, step-normal, step-small, step-keeps, step-of-power, zeta-not-above}
 
 -- m at the place that is the step's own exponent is whole steps
 whole-at : (f : Format) (c m k : ℕ) → c ≡ m * 2 ^ k → stepExp f (size c) ≡ k → lo f c ≡ c
 unfolding lo step
 whole-at f c m k is place =
-    ap (λ (j : ℕ). c / 2 ^ j * 2 ^ j) place
-    ∙ subst (λ (x : ℕ). x / 2 ^ k * 2 ^ k ≡ x) (sym is) (multiple-whole (2 ^ k) m (pow-pos k))
+    ap (λ (j : ℕ). c / 2 ^ j * 2 ^ j) place ∙ multiple-whole (2 ^ k) m c is
 
 module _ (f : Format) (r : InRange f) where
   -- ---- from document 01's words to whole steps
@@ -60,14 +58,24 @@ module _ (f : Format) (r : InRange f) where
   subnormal-whole c n =
       whole-at f c (n .m) (emin f + 1 - f .p) (n .is) (step-small f (size c) (size-le c (emin f) (subnormal-below c n)) ∙ zeta-sub f r (n .kept))
 
-  -- a candidate below T is whole steps of its own
-  pub candidate-whole : (c : ℕ) → Candidate f c → c < T f → lo f c ≡ c
+  -- a power from zeta on is whole steps of its own
+  pub power-whole : (j : ℕ) → zetaExp f ≤ j → lo f (2 ^ j) ≡ 2 ^ j
+  unfolding lo step
+  power-whole j h = pow-whole (stepExp f (size (2 ^ j))) j (subst (λ (s : ℕ). stepExp f s ≤ j) (sym (size-pow j)) (step-of-power f r j h))
+
+  -- so is T
+  top-whole : lo f (T f) ≡ T f
+  unfolding T
+  top-whole = power-whole (etop f) (le-of-lt (lt-of-le-of-lt (zeta-not-above f r) (etop-above f r)))
+
+  -- a candidate is whole steps of its own
+  pub candidate-whole : (c : ℕ) → Candidate f c → lo f c ≡ c
   unfolding lo
-  candidate-whole c (nothing z) h =
-      subst (λ (x : ℕ). x / step f x * step f x ≡ x) (sym z) (ap (λ (q : ℕ). q * step f 0) (zero-div (step f 0)) ∙ zero-mul (step f 0))
-  candidate-whole c (normal n) h = normal-whole c n
-  candidate-whole c (subnormal n) h = subnormal-whole c n
-  candidate-whole c (top t) h = absurd (lt-irrefl c (subst (λ (x : ℕ). c < x) (sym t) h))
+  candidate-whole c (nothing z) =
+      multiple-whole (step f c) 0 c (z ∙ sym (zero-mul (step f c)))
+  candidate-whole c (normal n) = normal-whole c n
+  candidate-whole c (subnormal n) = subnormal-whole c n
+  candidate-whole c (top t) = ap (lo f) t ∙ top-whole ∙ sym t
 
   -- T is the last candidate
   pub candidate-not-above-top : (c : ℕ) → Candidate f c → c ≤ T f
@@ -82,7 +90,6 @@ module _ (f : Format) (r : InRange f) where
   module _ (c : ℕ) (below : c < T f) (k : ℕ) (whole : c / 2 ^ k * 2 ^ k ≡ c) where
     -- p digits of whole steps, in the normal range
     normal-of : emin f < size c → size c - f .p ≡ k → Normal f c
-    unfolding T
     normal-of reached place =
         let s = size c in
         let counted : f .p + k ≡ s = omega (arith, emin-room f r) in
@@ -93,7 +100,7 @@ module _ (f : Format) (r : InRange f) where
           full = le-div-iff-mul-le (pow-pos k) .1 (subst (λ (x : ℕ). x ≤ c) (pow-add 2 (f .p - 1) k) first);
           fits = shr-lt (f .p) k (subst (λ (x : ℕ). c < 2 ^ x) (sym counted) (size-lt c));
           not-below = omega arith;
-          not-above = omega (arith, size-le c (etop f) below);
+          not-above = omega (arith, below-top-digits f r c below);
           is = sym whole ∙ ap (λ (x : ℕ). c / 2 ^ k * 2 ^ x) (omega arith);
         }
 
@@ -116,26 +123,25 @@ module _ (f : Format) (r : InRange f) where
     -- no digit at all where every step is longer than the number
     nothing-of : size c ≤ k → c ≡ 0
     nothing-of small =
-        sym whole
-        ∙ ap (λ (x : ℕ). x * 2 ^ k) (div-eq-of-lt (lt-of-lt-of-le (size-lt c) (pow-mono small)))
-        ∙ zero-mul (2 ^ k)
+        sym whole ∙ multiple-none (2 ^ k) c (lt-of-lt-of-le (size-lt c) (pow-mono small))
 
   -- a magnitude below T that is whole steps of its own is a candidate
   pub whole-candidate : (c : ℕ) → c < T f → lo f c ≡ c → Candidate f c
-  unfolding lo step zetaExp
+  unfolding lo step
   whole-candidate c below whole = go (below-or-not (emin f) (size c))
     where
       at : (k : ℕ) → stepExp f (size c) ≡ k → c / 2 ^ k * 2 ^ k ≡ c
       at k e = subst (λ (j : ℕ). c / 2 ^ j * 2 ^ j ≡ c) e whole
 
-      small : size c ≤ emin f → (b : Bool) → f .sub ≡ b → stepExp f (size c) ≡ cond b (emin f + 1 - f .p) (emin f) → (c ≡ 0) ⊎ (0 < c) → Candidate f c
-      small h true kept place (inl none) = nothing none
-      small h true kept place (inr pos) = subnormal (subnormal-of c below (emin f + 1 - f .p) (at (emin f + 1 - f .p) place) pos h kept refl)
-      small h false kept place z = nothing (nothing-of c below (emin f) (at (emin f) place) h)
+      small : size c ≤ emin f → (b : Bool) → f .sub ≡ b → (c ≡ 0) ⊎ (0 < c) → Candidate f c
+      small h b kept (inl none) = nothing none
+      small h true kept (inr pos) =
+          subnormal (subnormal-of c below (emin f + 1 - f .p) (at (emin f + 1 - f .p) (step-small f (size c) h ∙ zeta-sub f r kept)) pos h kept refl)
+      small h false kept (inr pos) = nothing (nothing-of c below (emin f) (at (emin f) (step-small f (size c) h ∙ zeta-no-sub f r kept)) h)
 
       go : (emin f < size c) ⊎ (size c ≤ emin f) → Candidate f c
       go (inl reached) = normal (normal-of c below (size c - f .p) (at (size c - f .p) (step-normal f (size c) reached)) reached refl)
-      go (inr h) = small h (f .sub) refl (step-small f (size c) h) (eq-zero-or-pos c)
+      go (inr h) = small h (f .sub) refl (eq-zero-or-pos c)
 
   -- ---- every candidate has a pattern
 
@@ -147,10 +153,12 @@ module _ (f : Format) (r : InRange f) where
       let kept : c < 2 ^ (f .p + k) = lt-of-lt-of-le (size-lt c) (pow-mono (step-keeps f r (size c))) in
       record { m = c / 2 ^ k; place = k; fits = lt-of-lt-of-le (shr-lt (f .p) k kept) (pow-mono (r .p-most)); is = sym whole }
 
-  -- so is T
+  -- so every candidate is, T among them
+  pub candidate-short : (c : ℕ) → Candidate f c → Short c
+  candidate-short c x = whole-short c (candidate-whole c x)
+
   pub top-short : Short (T f)
-  unfolding T
-  top-short = record { m = 1; place = etop f; fits = lit< tt; is = sym (one-mul (2 ^ etop f)) }
+  top-short = candidate-short (T f) (top refl)
 
   -- T is at most 2^1024
   pub top-not-above : T f ≤ 2 ^ (1074 + 1024)
@@ -162,5 +170,5 @@ module _ (f : Format) (r : InRange f) where
   candidate-binary64 c x = go (below-or-not c (T f))
     where
       go : (c < T f) ⊎ (T f ≤ c) → Binary64 c ⊎ (c ≡ T f)
-      go (inl below) = inl (record { short = whole-short c (candidate-whole c x below); below = lt-of-lt-of-le below top-not-above })
+      go (inl below) = inl (record { short = candidate-short c x; below = lt-of-lt-of-le below top-not-above })
       go (inr reached) = inr (le-antisymm (candidate-not-above-top c x) reached)

@@ -1,20 +1,21 @@
 -- The ends of a format: zeta is its smallest positive number, xmax its largest, T comes next, and the smallest normal number
 -- is one with no normal number below it. Assumes nothing.
-use mathlib.Core.Path.{_≡_, sym, ap, _∙_, subst}
+use mathlib.Core.Bool.{false}
+use mathlib.Core.Path.{_≡_, refl, sym, ap, _∙_, subst}
 use Prim.Native.Nat.{ℕ, suc, _+_, _-_, _*_, _/_, _^_, _≤_, _<_, zero-le}
-use native.Mathlib.Nat.{le-refl, le-trans, suc-mul}
+use native.Mathlib.Nat.{le-refl, le-trans}
 use native.Mathlib.Omega.{arith}
 use lib.Dec.{lit<}
-use lib.Pow.{pow-add, pow-pos, pow-lt, pow-mono, suc-ones, ones-lt, le-ones}
+use lib.Pow.{pow-add, pow-pos, pow-lt, pow-mono, ones-lt, le-ones}
 use lib.Ieee.{size}
 use lib.Ieee.Digits.{size-le}
-use Rattle.laws.proofs.Digits.{size-shift, size-first}
-use Rattle.laws.proofs.Multiples.{multiple-whole}
+use Rattle.laws.proofs.Digits.{size-shift, size-first, size-pow}
+use Rattle.laws.proofs.Multiples.{multiple-whole, ones-and-one}
 use Rattle.grid.specs.declared.Format.{Format}
 use Rattle.grid.specs.Formats.{InRange, emin, etop, zetaExp, stepExp, step, smallestNormal, zeta, xmax, T}
 use Rattle.grid.specs.Candidates.{Normal}
 use Rattle.grid.specs.Neighbours.{Lo, Hi, lo, hi}
-use Rattle.grid.proofs.Steps.{emin-room, etop-above, step-normal}
+use Rattle.grid.proofs.Steps.{emin-room, etop-above, zeta-no-sub, step-normal}
 use Rattle.grid.proofs.Candidates.{normal-digits}
 use Rattle.grid.proofs.Neighbours.{lo-is-nothing, hi-is-zeta, hi-is-hi, lo-is-lo, lo-within, hi-above}
 
@@ -51,7 +52,7 @@ module _ (f : Format) (r : InRange f) where
   unfolding lo xmax
   xmax-whole =
       let place = etop f - f .p in
-      ap (λ (d : ℕ). xmax f / d * d) xmax-step ∙ multiple-whole (2 ^ place) (2 ^ f .p - 1) (pow-pos place)
+      ap (λ (d : ℕ). xmax f / d * d) xmax-step ∙ multiple-whole (2 ^ place) (2 ^ f .p - 1) (xmax f) refl
 
   -- and one step further is T
   pub hi-of-xmax : hi f (xmax f) ≡ T f
@@ -61,9 +62,7 @@ module _ (f : Format) (r : InRange f) where
       let whole : f .p + place ≡ etop f = omega (arith, emin-room f r, etop-above f r) in
       ap (λ (x : ℕ). x + step f (xmax f)) xmax-whole
       ∙ ap (λ (d : ℕ). xmax f + d) xmax-step
-      ∙ sym (suc-mul (2 ^ f .p - 1) (2 ^ place))
-      ∙ ap (λ (x : ℕ). x * 2 ^ place) (suc-ones (f .p))
-      ∙ sym (pow-add 2 (f .p) place)
+      ∙ ones-and-one (f .p) place
       ∙ ap (λ (k : ℕ). 2 ^ k) whole
 
   pub xmax-below-top : xmax f < T f
@@ -83,6 +82,15 @@ module _ (f : Format) (r : InRange f) where
       (lo-is-lo f r a below)
 
   -- ---- the smallest normal number
+
+  -- its step is p - 1 places below it: without subnormals, where it is zeta, that is less than the step before it
+  pub step-at-smallest-normal : step f (smallestNormal f) ≡ 2 ^ (suc (emin f) - f .p)
+  unfolding step smallestNormal
+  step-at-smallest-normal = ap (λ (k : ℕ). 2 ^ k) (ap (stepExp f) (size-pow (emin f)) ∙ step-normal f (suc (emin f)) (le-refl (suc (emin f))))
+
+  pub zeta-without-subnormals : f .sub ≡ false → zeta f ≡ smallestNormal f
+  unfolding zeta smallestNormal
+  zeta-without-subnormals none = ap (λ (k : ℕ). 2 ^ k) (zeta-no-sub f r none)
 
   pub smallest-normal-is-normal : Normal f (smallestNormal f)
   unfolding smallestNormal

@@ -3,9 +3,10 @@ use mathlib.Core.Bool.{Bool, true, false, cond}
 use mathlib.Core.Path.{_≡_, refl, sym, ap, _∙_}
 use mathlib.Core.Logic.{inl, inr}
 use Prim.Native.Nat.{ℕ, _+_, _-_, _*_, _%_, _^_, _≤_, _<_, min}
-use native.Mathlib.Nat.{le-refl, le-trans, mul-le-mul, mod-le, mul-one, mul-assoc, suc-mul, add-sub-of-le}
+use native.Mathlib.Nat.{le-refl, mul-one, mul-assoc, add-sub-of-le}
 use native.Mathlib.Omega.{arith}
-use lib.Pow.{pow-add, pow-mono, suc-ones}
+use lib.Pow.{pow-add, pow-mono}
+use Rattle.laws.proofs.Multiples.{ones-and-one}
 use Rattle.laws.proofs.Words.{one-shifted}
 use Rattle.grid.specs.declared.Format.{Format}
 use Rattle.grid.specs.Patterns.{infinity, pat, powerPattern}
@@ -25,8 +26,8 @@ module _ (k : ℕ) where
       sym (ap (λ (j : ℕ). pat (2 ^ j)) (sym held) ∙ ap pat (sym (mul-one (2 ^ k))) ∙ pat-at 0 (2 ^ k) most (inl refl) ∙ omega arith)
 
   -- from there on its exponent field counts it
-  power-of : 52 ≤ k → pat (2 ^ k) ≡ (k - 51) * 2 ^ 52
-  power-of h =
+  pat-power : 52 ≤ k → pat (2 ^ k) ≡ (k - 51) * 2 ^ 52
+  pat-power h =
       ap pat (ap (λ (j : ℕ). 2 ^ j) (sum h) ∙ pow-add 2 52 (k - 52)) ∙ pat-at (k - 52) (2 ^ 52) (omega arith) (inr (le-refl (2 ^ 52))) ∙ omega arith
     where
       sum : 52 ≤ k → k ≡ 52 + (k - 52)
@@ -36,7 +37,7 @@ module _ (k : ℕ) where
   unfolding powerPattern
   power-large h g =
       let held : min k (1074 + 1024) ≡ k = omega arith in
-      sym (ap (λ (j : ℕ). pat (2 ^ j)) held ∙ power-of h)
+      sym (ap (λ (j : ℕ). pat (2 ^ j)) held ∙ pat-power h)
 
   pub power-infinity : 1074 + 1024 ≤ k → infinity ≡ powerPattern k
   unfolding powerPattern
@@ -60,23 +61,17 @@ module _ (f : Format) (b : Bool) (tested : b ≡ inRange f) where
     unfolding patternIn
     pattern-in-range n = ap (λ (t : Bool). cond t (pat n) 0) (sym tested ∙ passed)
 
-    r : InRange f
-    r = in-range-bounds f (sym tested ∙ passed)
-
-    -- the settings are small, so that the code's sums and differences of them fit
-    pub emax-small : f .emax ≤ 1023
-    emax-small = r .emax-most
-
-    pub precision-small : f .p ≤ 53
-    precision-small = r .p-most
+    -- the settings have their bounds, so that the code's sums and differences of them fit
+    pub range-passed : InRange f
+    range-passed = in-range-bounds f (sym tested ∙ passed)
 
     pub smallest-normal-pattern-is : (y : ℕ) → y ≡ powerPattern (1075 - f .emax) → y ≡ patternIn f (smallestNormal f)
     unfolding smallestNormal emin
-    smallest-normal-pattern-is y e = e ∙ power-pattern-is (1075 - f .emax) (omega (arith, r .emax-most)) ∙ sym (pattern-in-range (smallestNormal f))
+    smallest-normal-pattern-is y e = e ∙ power-pattern-is (1075 - f .emax) (omega (arith, range-passed .emax-most)) ∙ sym (pattern-in-range (smallestNormal f))
 
     pub top-pattern-is : (y : ℕ) → y ≡ powerPattern (1075 + f .emax) → y ≡ patternIn f (T f)
     unfolding T etop
-    top-pattern-is y e = e ∙ power-pattern-is (1075 + f .emax) (omega (arith, r .emax-most)) ∙ sym (pattern-in-range (T f))
+    top-pattern-is y e = e ∙ power-pattern-is (1075 + f .emax) (omega (arith, range-passed .emax-most)) ∙ sym (pattern-in-range (T f))
 
     -- xmax is T less one in the last of p places, and its pattern is the pattern of T less the same
     pub xmax-then-top : pat (xmax f) + 2 ^ (53 - f .p) ≡ pat (T f)
@@ -85,31 +80,22 @@ module _ (f : Format) (b : Bool) (tested : b ≡ inRange f) where
         let d = 2 ^ (53 - f .p) in
         let s = (2 ^ f .p - 1) * d in
         let t = 1075 + f .emax in
-        let carried : s + d ≡ 2 ^ 53 = carry (f .p) (r .p-most) in
-        let few : d ≤ 2 ^ 51 = pow-mono {i = 53 - f .p} {j = 51} (omega (arith, r .p-least)) in
+        let carried : s + d ≡ 2 ^ 53 = ones-and-one (f .p) (53 - f .p) ∙ ap (λ (k : ℕ). 2 ^ k) (add-sub-of-le (range-passed .p-most)) in
+        let few : d ≤ 2 ^ 51 = pow-mono {i = 53 - f .p} {j = 51} (omega (arith, range-passed .p-least)) in
         let shifted : s * 2 ^ (t - 53) ≡ (2 ^ f .p - 1) * 2 ^ (t - f .p) =
         mul-assoc (2 ^ f .p - 1) d (2 ^ (t - 53))
-        ∙ ap (λ (x : ℕ). (2 ^ f .p - 1) * x) (sym (pow-add 2 (53 - f .p) (t - 53)) ∙ ap (λ (k : ℕ). 2 ^ k) (places (f .p) t (r .p-most) (omega arith))) in
-        omega (arith, sym (ap pat shifted) ∙ pat-at (t - 53) s (omega arith) (inr (omega arith)), power-of t (omega arith))
+        ∙ ap (λ (x : ℕ). (2 ^ f .p - 1) * x) (sym (pow-add 2 (53 - f .p) (t - 53)) ∙ ap (λ (k : ℕ). 2 ^ k) (places (f .p) t (range-passed .p-most) (omega arith))) in
+        omega (arith, sym (ap pat shifted) ∙ pat-at (t - 53) s (omega arith) (inr (omega arith)), pat-power t (omega arith))
       where
-        carry : (p : ℕ) → p ≤ 53 → (2 ^ p - 1) * 2 ^ (53 - p) + 2 ^ (53 - p) ≡ 2 ^ 53
-        carry p h =
-            sym (suc-mul (2 ^ p - 1) (2 ^ (53 - p))) ∙ ap (λ (x : ℕ). x * 2 ^ (53 - p)) (suc-ones p)
-            ∙ sym (pow-add 2 p (53 - p)) ∙ ap (λ (k : ℕ). 2 ^ k) (add-sub-of-le h)
-
         places : (p t : ℕ) → p ≤ 53 → 53 ≤ t → 53 - p + (t - 53) ≡ t - p
         places p t h g = omega arith
 
     module _ (y : ℕ) (e : y ≡ patternIn f (T f)) where
-      -- T's pattern is above anything up to 2^61, so the code may take it away. The law allows for more than the code takes,
-      -- so that a wrong amount is refused at the answer and not at the subtraction.
-      pub top-pattern-large : (c n p : ℕ) → c ≤ 2 → n ≤ 60 → c * 2 ^ (n - p) % 2 ^ 64 ≤ y
+      -- T's pattern is large, so that the code may take a place of its fraction away
+      pub top-pattern-large : 2 ^ 61 ≤ y
       unfolding T etop
-      top-pattern-large c n p few short =
-          let large : 2 ^ 61 ≤ y = omega (arith, pattern-in-range (T f), power-of (1075 + f .emax) (omega arith)) in
-          let least : 2 ^ (n - p) ≤ 2 ^ 60 = pow-mono {i = n - p} {j = 60} (omega arith) in
-          le-trans (mod-le (c * 2 ^ (n - p)) (2 ^ 64)) (le-trans (mul-le-mul few least) large)
+      top-pattern-large = omega (arith, pattern-in-range (T f), pat-power (1075 + f .emax) (omega arith))
 
-      pub xmax-pattern-is : y - 1 * 2 ^ (53 - f .p) % 2 ^ 64 ≡ patternIn f (xmax f)
-      xmax-pattern-is =
-          omega (arith, one-shifted 64 (53 - f .p) (omega arith), pattern-in-range (T f), pattern-in-range (xmax f), xmax-then-top)
+      pub xmax-pattern-is : (w : ℕ) → 53 < w → y - 1 * 2 ^ (53 - f .p) % 2 ^ w ≡ patternIn f (xmax f)
+      xmax-pattern-is w wide =
+          omega (arith, one-shifted w (53 - f .p) (omega arith), pattern-in-range (T f), pattern-in-range (xmax f), xmax-then-top)

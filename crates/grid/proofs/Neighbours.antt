@@ -5,21 +5,21 @@ use mathlib.Core.Bool.{true}
 use mathlib.Core.Path.{_≡_, sym, ap, _∙_, subst}
 use mathlib.Core.Logic.{_⊎_, inl, inr}
 use Prim.Native.Nat.{ℕ, suc, _+_, _-_, _*_, _/_, _^_, _≤_, _<_}
-use native.Mathlib.Nat.{le-refl, le-trans, le-antisymm, le-of-lt, le-of-suc-le-suc, lt-irrefl, lt-of-lt-of-le, lt-of-le-of-lt, lt-of-not-le, div-mul-le-self, lt-div-mul-add, div-eq-of-lt, zero-mul, zero-add, suc-mul, pow-succ', le-suc, le-div-iff-mul-le, mul-le-mul-right}
+use native.Mathlib.Nat.{le-refl, le-trans, le-antisymm, le-of-lt, lt-irrefl, lt-of-lt-of-le, lt-of-le-of-lt, div-mul-le-self, lt-div-mul-add, zero-add, suc-mul, pow-succ', le-suc, le-div-iff-mul-le, mul-le-mul-right}
 use native.Mathlib.Omega.{arith}
 use lib.Pow.{pow-pos, pow-mono}
 use lib.Ieee.{size}
 use lib.Ieee.Digits.{size-lt, size-le}
 use Rattle.laws.proofs.Digits.{size-is, size-first, size-pow}
-use Rattle.laws.proofs.Multiples.{multiples-apart, multiples-in, multiple-whole, pow-whole}
-use Rattle.laws.proofs.Orders.{below-or-not}
+use Rattle.laws.proofs.Multiples.{multiples-apart, multiples-in, multiple-whole, multiple-none, pow-whole}
+use Rattle.laws.proofs.Orders.{below-or-not, le-of-not-lt}
 use Rattle.grid.specs.declared.Format.{Format}
 use Rattle.grid.specs.Formats.{InRange, emin, zetaExp, stepExp, step, zeta, T}
 use Rattle.grid.specs.Candidates.{Candidate}
 use Rattle.grid.specs.Candidates.Candidate.{top}
 use Rattle.grid.specs.Neighbours.{Lo, Hi, lo, hi}
-use Rattle.grid.proofs.Steps.{step-below-zeta, step-of-power, step-next, top-whole}
-use Rattle.grid.proofs.Candidates.{candidate-whole, whole-candidate}
+use Rattle.grid.proofs.Steps.{step-below-zeta, step-of-power, step-doubles, step-stays, top-in-steps}
+use Rattle.grid.proofs.Candidates.{candidate-whole, whole-candidate, power-whole}
 
 -- ---- whole steps around a magnitude
 
@@ -61,9 +61,7 @@ module _ (f : Format) (r : InRange f) where
     pub lo-is-nothing : lo f a ≡ 0
     unfolding lo zeta
     lo-is-nothing =
-        ap (λ (d : ℕ). a / d * d) step-is-zeta
-        ∙ ap (λ (q : ℕ). q * zeta f) (div-eq-of-lt (lt-of-lt-of-le (size-lt a) (pow-mono tiny)))
-        ∙ zero-mul (zeta f)
+        ap (λ (d : ℕ). a / d * d) step-is-zeta ∙ multiple-none (zeta f) a (lt-of-lt-of-le (size-lt a) (pow-mono tiny))
 
     pub hi-is-zeta : hi f a ≡ zeta f
     unfolding hi
@@ -102,18 +100,19 @@ module _ (f : Format) (r : InRange f) where
   pub hi-same-or-next-binade : (a : ℕ) → zetaExp f < size a → (size (hi f a) ≡ size a) ⊎ (hi f a ≡ 2 ^ size a)
   hi-same-or-next-binade a h = let d = first-digit a h in hi-ends a (size a - 1) (d .0) (d .1)
 
-  -- Where hi begins the next binade its own step is a's or twice that; without subnormals, in the normal range.
-  pub step-at-hi : (a : ℕ) → (f .sub ≡ true) ⊎ (emin f < size a) → hi f a ≡ 2 ^ size a → (step f (hi f a) ≡ step f a) ⊎ (step f (hi f a) ≡ 2 * step f a)
+  step-at-power : (a : ℕ) → hi f a ≡ 2 ^ size a → step f (hi f a) ≡ 2 ^ stepExp f (suc (size a))
   unfolding step
-  step-at-hi a h e = go (step-next f r (size a) h)
-    where
-      next : step f (hi f a) ≡ 2 ^ stepExp f (suc (size a))
-      next = ap (λ (s : ℕ). 2 ^ stepExp f s) (ap size e ∙ size-pow (size a))
+  step-at-power a e = ap (λ (s : ℕ). 2 ^ stepExp f s) (ap size e ∙ size-pow (size a))
 
-      go : (stepExp f (suc (size a)) ≡ stepExp f (size a)) ⊎ (stepExp f (suc (size a)) ≡ suc (stepExp f (size a)))
-          → (step f (hi f a) ≡ step f a) ⊎ (step f (hi f a) ≡ 2 * step f a)
-      go (inl same) = inl (next ∙ ap (λ (k : ℕ). 2 ^ k) same)
-      go (inr more) = inr (next ∙ ap (λ (k : ℕ). 2 ^ k) more ∙ pow-succ' 2 (stepExp f (size a)))
+  -- Where hi begins the next binade, its own step is twice a's in the normal range,
+  pub step-at-hi : (a : ℕ) → emin f < size a → hi f a ≡ 2 ^ size a → step f (hi f a) ≡ 2 * step f a
+  unfolding step
+  step-at-hi a h e = step-at-power a e ∙ ap (λ (k : ℕ). 2 ^ k) (step-doubles f r (size a) h) ∙ pow-succ' 2 (stepExp f (size a))
+
+  -- and a's own among the subnormals.
+  pub step-at-hi-subnormal : f .sub ≡ true → (a : ℕ) → size a ≤ emin f → hi f a ≡ 2 ^ size a → step f (hi f a) ≡ step f a
+  unfolding step
+  step-at-hi-subnormal kept a h e = step-at-power a e ∙ ap (λ (k : ℕ). 2 ^ k) (step-stays f r kept (size a) h)
 
   -- ---- from lo up to hi nothing changes
 
@@ -134,7 +133,7 @@ module _ (f : Format) (r : InRange f) where
   unfolding lo hi
   lo-within a c least below =
       ap (λ (d : ℕ). c / d * d) (step-within a c least below)
-      ∙ ap (λ (q : ℕ). q * step f a) (multiples-in (step f a) (a / step f a) c (step-positive f a) least below)
+      ∙ ap (λ (q : ℕ). q * step f a) (multiples-in (step f a) (a / step f a) c least below)
 
   pub hi-within : (a c : ℕ) → lo f a ≤ c → c < hi f a → hi f c ≡ hi f a
   unfolding hi
@@ -149,24 +148,19 @@ module _ (f : Format) (r : InRange f) where
   pub lo-whole : (a : ℕ) → lo f (lo f a) ≡ lo f a
   lo-whole a = lo-within a (lo f a) (le-refl (lo f a)) (lo-below-hi f a)
 
-  -- a power from zeta on is whole steps of its own
-  pub power-whole : (j : ℕ) → zetaExp f ≤ j → lo f (2 ^ j) ≡ 2 ^ j
-  unfolding lo step
-  power-whole j h = pow-whole (stepExp f (size (2 ^ j))) j (subst (λ (s : ℕ). stepExp f s ≤ j) (sym (size-pow j)) (step-of-power f r j h))
-
   pub hi-whole : (a : ℕ) → lo f (hi f a) ≡ hi f a
   unfolding lo hi step zeta
   hi-whole a = go (below-or-not (zetaExp f) (size a))
     where
       power : (j : ℕ) → zetaExp f ≤ j → hi f a ≡ 2 ^ j → lo f (hi f a) ≡ hi f a
-      power j h e = ap (lo f) e ∙ power-whole j h ∙ sym e
+      power j h e = ap (lo f) e ∙ power-whole f r j h ∙ sym e
 
       large : zetaExp f < size a → (size (hi f a) ≡ size a) ⊎ (hi f a ≡ 2 ^ size a) → lo f (hi f a) ≡ hi f a
       large h (inl same) =
           let d = step f a in
           let q = a / step f a in
           ap (λ (s : ℕ). hi f a / 2 ^ stepExp f s * 2 ^ stepExp f s) same
-          ∙ subst (λ (x : ℕ). x / d * d ≡ x) (suc-mul q d) (multiple-whole d (suc q) (step-positive f a))
+          ∙ multiple-whole d (suc q) (hi f a) (sym (suc-mul q d))
       large h (inr next) = power (size a) (le-of-lt h) next
 
       go : (zetaExp f < size a) ⊎ (size a ≤ zetaExp f) → lo f (hi f a) ≡ hi f a
@@ -175,7 +169,7 @@ module _ (f : Format) (r : InRange f) where
 
   module _ (a : ℕ) (below-top : a < T f) where
     pub hi-not-above-top : hi f a ≤ T f
-    hi-not-above-top = hi-stays f a (T f) (top-whole f r a below-top) below-top
+    hi-not-above-top = hi-stays f a (T f) (top-in-steps f r a below-top) below-top
 
     pub lo-candidate : Candidate f (lo f a)
     lo-candidate = whole-candidate f r (lo f a) (lt-of-le-of-lt (lo-not-above f a) below-top) (lo-whole a)
@@ -191,7 +185,7 @@ module _ (f : Format) (r : InRange f) where
 
     pub none-between : (c : ℕ) → Candidate f c → lo f a < c → c < hi f a → ⊥
     none-between c x over below =
-        let own : lo f c ≡ c = candidate-whole f r c x (lt-of-lt-of-le below hi-not-above-top) in
+        let own : lo f c ≡ c = candidate-whole f r c x in
         lt-irrefl c (subst (λ (y : ℕ). y < c) (sym (lo-within a c (le-of-lt over) below) ∙ own) over)
 
     -- lo is the largest candidate not above a
@@ -200,7 +194,7 @@ module _ (f : Format) (r : InRange f) where
         record {
           among = lo-candidate;
           not-above = lo-not-above f a;
-          largest = λ c x h. le-of-suc-le-suc (lt-of-not-le (λ (over : lo f a < c). none-between c x over (lt-of-le-of-lt h (hi-above f a))));
+          largest = λ c x h. le-of-not-lt (λ (over : lo f a < c). none-between c x over (lt-of-le-of-lt h (hi-above f a)));
         }
 
     -- hi is the next candidate above lo
@@ -209,7 +203,7 @@ module _ (f : Format) (r : InRange f) where
         record {
           among = hi-candidate;
           above = lo-below-hi f a;
-          next = λ c x over. le-of-suc-le-suc (lt-of-not-le (λ (below : c < hi f a). none-between c x over below));
+          next = λ c x over. le-of-not-lt (none-between c x over);
         }
 
     -- Two candidates around a with none between them are lo and hi.
@@ -218,12 +212,12 @@ module _ (f : Format) (r : InRange f) where
       pub lower-is-lo : x ≡ lo f a
       lower-is-lo =
           le-antisymm (lo-is-lo .largest x x-among not-above)
-          (le-of-suc-le-suc (lt-of-not-le (λ (g : x < lo f a). none (lo f a) lo-candidate g (lt-of-le-of-lt (lo-not-above f a) above))))
+          (le-of-not-lt (λ (g : x < lo f a). none (lo f a) lo-candidate g (lt-of-le-of-lt (lo-not-above f a) above)))
 
       pub upper-is-hi : y ≡ hi f a
       upper-is-hi =
           le-antisymm
-          (le-of-suc-le-suc (lt-of-not-le (λ (g : hi f a < y). none (hi f a) hi-candidate (lt-of-le-of-lt not-above (hi-above f a)) g)))
+          (le-of-not-lt (none (hi f a) hi-candidate (lt-of-le-of-lt not-above (hi-above f a))))
           (hi-is-hi .next y y-among (lt-of-le-of-lt (lo-not-above f a) above))
 
 -- lo is the only number with its property, and so is hi

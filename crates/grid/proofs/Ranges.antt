@@ -1,10 +1,10 @@
 -- The range test and the four bounds that it stands for. Assumes nothing.
-use mathlib.Core.Bool.{Bool, true, false, _&&_}
-use mathlib.Core.Path.{_≡_, refl, sym, ap, _∙_}
+use mathlib.Core.Bool.{Bool, true, false}
+use mathlib.Core.Path.{_≡_, refl, sym, _∙_}
 use Prim.Native.Nat.{ℕ, _≤_, _<_}
 use lib.Dec.{leb}
 use borrow.Author.Tests.{leb-true, le-leb, lt-leb}
-use Rattle.laws.proofs.Tests.{and-left, and-right}
+use Rattle.laws.proofs.Tests.{and-left, and-right, and-asked, and-failed}
 use Rattle.grid.specs.declared.Format.{Format}
 use Rattle.grid.specs.Formats.{between, precisionFits, exponentFits, inRange, InRange}
 
@@ -12,11 +12,11 @@ module _ (least n most : ℕ) where
   -- the test asks for the upper bound only where the lower one holds
   pub between-asked : least ≤ n → leb n most ≡ between least n most
   unfolding between
-  between-asked h = sym (ap (λ (b : Bool). b && leb n most) (le-leb least n h))
+  between-asked h = and-asked (leb least n) (leb n most) (le-leb least n h)
 
   pub between-failed : n < least → leb least n ≡ between least n most
   unfolding between
-  between-failed h = lt-leb least n h ∙ sym (ap (λ (b : Bool). b && leb n most) (lt-leb least n h))
+  between-failed h = and-failed (leb least n) (leb n most) (lt-leb least n h)
 
   -- it says both bounds, and both bounds say it
   pub between-least : between least n most ≡ true → least ≤ n
@@ -34,11 +34,11 @@ module _ (least n most : ℕ) where
 module _ (f : Format) (a : Bool) (fits : a ≡ precisionFits (f .p)) where
   pub in-range-asked : (b : Bool) → b ≡ exponentFits (f .emax) → a ≡ true → b ≡ inRange f
   unfolding inRange
-  in-range-asked b e h = e ∙ sym (ap (λ (t : Bool). t && exponentFits (f .emax)) (sym fits ∙ h))
+  in-range-asked b e h = e ∙ and-asked (precisionFits (f .p)) (exponentFits (f .emax)) (sym fits ∙ h)
 
   pub in-range-failed : a ≡ false → a ≡ inRange f
   unfolding inRange
-  in-range-failed h = h ∙ sym (ap (λ (t : Bool). t && exponentFits (f .emax)) (sym fits ∙ h))
+  in-range-failed h = fits ∙ and-failed (precisionFits (f .p)) (exponentFits (f .emax)) (sym fits ∙ h)
 
 -- a format that passes the test has its settings in range
 pub in-range-bounds : (f : Format) → inRange f ≡ true → InRange f

@@ -3,6 +3,7 @@ use mathlib.Core.Bool.{Bool, true, false, cond}
 use mathlib.Core.Path.{_≡_, ap}
 use mathlib.Core.Logic.{_⊎_, inl, inr}
 use Prim.Native.Nat.{ℕ, suc, _+_, _-_, _*_, _/_, _≤_, _<_}
+use native.Mathlib.Nat.{le-step}
 use native.Mathlib.Omega.{arith}
 use lib.Ieee.{size}
 use lib.Ieee.Digits.{size-le}
@@ -25,13 +26,13 @@ unfolding stepExp
 step-small f s h = ap (λ (b : Bool). cond b (s - f .p) (zetaExp f)) (le-ltb (emin f) s h)
 
 -- there is no third case
-abbrev Cases : Format → ℕ → Type 0
-Cases f s = ((emin f < s) × (stepExp f s ≡ s - f .p)) ⊎ ((s ≤ emin f) × (stepExp f s ≡ zetaExp f))
+abbrev StepCases : Format → ℕ → Type 0
+StepCases f s = ((emin f < s) × (stepExp f s ≡ s - f .p)) ⊎ ((s ≤ emin f) × (stepExp f s ≡ zetaExp f))
 
-step-cases : (f : Format) (s : ℕ) → Cases f s
+step-cases : (f : Format) (s : ℕ) → StepCases f s
 step-cases f s = go (below-or-not (emin f) s)
   where
-    go : (emin f < s) ⊎ (s ≤ emin f) → Cases f s
+    go : (emin f < s) ⊎ (s ≤ emin f) → StepCases f s
     go (inl h) = inl (h, step-normal f s h)
     go (inr h) = inr (h, step-small f s h)
 
@@ -51,6 +52,11 @@ module _ (f : Format) (r : InRange f) where
   pub zeta-sub : f .sub ≡ true → zetaExp f ≡ emin f + 1 - f .p
   unfolding zetaExp
   zeta-sub kept = ap (λ (b : Bool). cond b (emin f + 1 - f .p) (emin f)) kept
+
+  -- and without them it is that number
+  pub zeta-no-sub : f .sub ≡ false → zetaExp f ≡ emin f
+  unfolding zetaExp
+  zeta-no-sub none = ap (λ (b : Bool). cond b (emin f + 1 - f .p) (emin f)) none
 
   -- zeta is not above the smallest normal number, and fewer than p places below it
   pub zeta-not-above : zetaExp f ≤ emin f
@@ -79,7 +85,7 @@ module _ (f : Format) (r : InRange f) where
   pub step-of-power : (j : ℕ) → zetaExp f ≤ j → stepExp f (suc j) ≤ j
   step-of-power j h = go (step-cases f (suc j))
     where
-      go : Cases f (suc j) → stepExp f (suc j) ≤ j
+      go : StepCases f (suc j) → stepExp f (suc j) ≤ j
       go (inl c) = omega arith
       go (inr c) = omega arith
 
@@ -87,26 +93,32 @@ module _ (f : Format) (r : InRange f) where
   pub step-keeps : (s : ℕ) → s ≤ f .p + stepExp f s
   step-keeps s = go (step-cases f s)
     where
-      go : Cases f s → s ≤ f .p + stepExp f s
+      go : StepCases f s → s ≤ f .p + stepExp f s
       go (inl c) = omega arith
       go (inr c) = omega (arith, zeta-near)
 
-  -- with one digit more the step is the same or doubles; without subnormals, only from the smallest normal number on
-  pub step-next : (s : ℕ) → (f .sub ≡ true) ⊎ (emin f < s) → (stepExp f (suc s) ≡ stepExp f s) ⊎ (stepExp f (suc s) ≡ suc (stepExp f s))
-  step-next s h = go h (step-cases f s) (step-cases f (suc s))
-    where
-      go : (f .sub ≡ true) ⊎ (emin f < s) → Cases f s → Cases f (suc s) → (stepExp f (suc s) ≡ stepExp f s) ⊎ (stepExp f (suc s) ≡ suc (stepExp f s))
-      go h (inl c) (inl d) = inr (omega (arith, emin-room))
-      go h (inl c) (inr d) = inr (omega arith)
-      go h (inr c) (inr d) = inl (omega arith)
-      go (inl kept) (inr c) (inl d) = inl (omega (arith, zeta-sub kept))
-      go (inr reached) (inr c) (inl d) = inr (omega arith)
+  -- from the smallest normal number on, one digit more doubles the step
+  pub step-doubles : (s : ℕ) → emin f < s → stepExp f (suc s) ≡ suc (stepExp f s)
+  step-doubles s h = omega (arith, emin-room, step-normal f s h, step-normal f (suc s) (le-step h))
 
-  -- the step of a magnitude below T is below T too, so T is whole steps
-  pub top-whole : (a : ℕ) → a < T f → T f / step f a * step f a ≡ T f
-  unfolding T step
-  top-whole a h = pow-whole (stepExp f (size a)) (etop f) (go (size-le a (etop f) h) (step-cases f (size a)))
+  -- below it, with subnormals, the step stays
+  pub step-stays : f .sub ≡ true → (s : ℕ) → s ≤ emin f → stepExp f (suc s) ≡ stepExp f s
+  step-stays kept s h = go (step-cases f (suc s))
     where
-      go : size a ≤ etop f → Cases f (size a) → stepExp f (size a) ≤ etop f
+      go : StepCases f (suc s) → stepExp f (suc s) ≡ stepExp f s
+      go (inl c) = omega (arith, zeta-sub kept, step-small f s h)
+      go (inr c) = omega (arith, step-small f s h)
+
+  -- a magnitude below T has no digit from T's exponent on
+  pub below-top-digits : (a : ℕ) → a < T f → size a ≤ etop f
+  unfolding T
+  below-top-digits a h = size-le a (etop f) h
+
+  -- the step of a magnitude below T is below T too, so T is whole steps of it
+  pub top-in-steps : (a : ℕ) → a < T f → T f / step f a * step f a ≡ T f
+  unfolding T step
+  top-in-steps a h = pow-whole (stepExp f (size a)) (etop f) (go (below-top-digits a h) (step-cases f (size a)))
+    where
+      go : size a ≤ etop f → StepCases f (size a) → stepExp f (size a) ≤ etop f
       go below (inl c) = omega arith
       go below (inr c) = omega (arith, zeta-not-above, etop-above)

@@ -3,7 +3,7 @@
 use mathlib.Core.Path.{_≡_, refl, sym, ap, ap₂, _∙_, subst}
 use mathlib.Core.Logic.{_⊎_, inl, inr}
 use Prim.Native.Nat.{ℕ, zero, suc, _+_, _-_, _*_, _/_, _%_, _^_, _≤_, _<_}
-use native.Mathlib.Nat.{le-refl, le-antisymm, le-of-lt, lt-trans, lt-irrefl, lt-of-lt-of-le, le-of-suc-le-suc, lt-of-not-le, mul-lt-mul-of-pos-right, mul-div-cancel, mul-one, mul-assoc, zero-add, div-one, div-add-mod', pow-succ', eq-zero-or-pos, eq-or-lt-of-le, le-div-iff-mul-le}
+use native.Mathlib.Nat.{le-refl, le-antisymm, le-of-lt, lt-trans, lt-irrefl, lt-of-lt-of-le, lt-of-not-le, mul-lt-mul-of-pos-right, mul-div-cancel, mul-one, mul-assoc, zero-add, div-one, div-add-mod', pow-succ', eq-zero-or-pos, eq-or-lt-of-le, le-div-iff-mul-le}
 use native.Mathlib.Omega.{arith}
 use native.Mathlib.Decide.{le-ind}
 use lib.Pow.{pow-add, pow-pos, pow-mono, shl-lt, shr-lt}
@@ -11,7 +11,7 @@ use lib.Ieee.{size}
 use lib.Ieee.Digits.{size-lt, size-le, size-reaches}
 use Rattle.laws.proofs.Digits.{size-shift}
 use Rattle.laws.proofs.Multiples.{zeros-whole}
-use Rattle.laws.proofs.Orders.{below-or-not}
+use Rattle.laws.proofs.Orders.{below-or-not, le-of-not-lt}
 use Rattle.grid.specs.Patterns.{infinity, worth, val, ex, sig, digitsOf, Short, Binary64, pat}
 
 -- ---- the two readings of a value
@@ -92,7 +92,7 @@ pub val-injective : (m n : ℕ) → val m ≡ val n → m ≡ n
 val-injective m n e = le-antisymm (not-above m n e) (not-above n m (sym e))
   where
     not-above : (m n : ℕ) → val m ≡ val n → m ≤ n
-    not-above m n e = le-of-suc-le-suc (lt-of-not-le (λ (g : n < m). lt-irrefl (val n) (subst (λ (v : ℕ). val n < v) e (val-increasing n m g))))
+    not-above m n e = le-of-not-lt (λ (g : n < m). lt-irrefl (val n) (subst (λ (v : ℕ). val n < v) e (val-increasing n m g)))
 
 -- what is worth more is a larger pattern
 pub val-order : (m n : ℕ) → val m < val n → m < n

@@ -48,7 +48,7 @@ zetaExp f = cond (f .sub) (emin f + 1 - f .p) (emin f)
 unfoldable pub zeta : Format → ℕ
 zeta f = 2 ^ zetaExp f
 
--- the exponent of T, emax + 1
+-- emax + 1, the exponent of T: a magnitude below T has at most this many digits
 unfoldable pub etop : Format → ℕ
 etop f = 1075 + f .emax
 

@@ -12,13 +12,7 @@ use Rattle.grid.specs.declared.Format.{Format}
 use Rattle.grid.specs.Formats.{between, precisionFits, exponentFits, inRange, InRange}
 use Rattle.grid.proofs.Ranges.{in-range-bounds}
 use Rattle.known.specs.declared.Lookup.{Lookup}
-use Rattle.known.specs.Table.{formats, none, lookup}
-
-abbrev found : ℕ → Lookup
-found n = record { number = 0; format = getD formats n none }
-
-abbrev refused : Lookup
-refused = record { number = 11; format = none }
+use Rattle.known.specs.Table.{formats, none, found, refused, lookup}
 
 pub lookup-found : (n : ℕ) → n < length formats → found n ≡ lookup n
 unfolding lookup

@@ -26,6 +26,14 @@ formats =
 abbrev pub none : Format
 none = record { p = 0; emax = 0; sub = false }
 
--- the format with the number, or refusal 11 above the table's end
+-- what a lookup answers up to the table's end
+abbrev pub found : ℕ → Lookup
+found n = record { number = 0; format = getD formats n none }
+
+-- and above it: refusal 11
+abbrev pub refused : Lookup
+refused = record { number = 11; format = none }
+
+-- the format with the number, or the refusal
 unfoldable pub lookup : ℕ → Lookup
-lookup n = cond (ltb n (length formats)) (record { number = 0; format = getD formats n none }) (record { number = 11; format = none })
+lookup n = cond (ltb n (length formats)) (found n) refused

@@ -1,12 +1,18 @@
 -- Words of w bits, as shifts and masks leave them. Assumes nothing.
-use mathlib.Core.Path.{_≡_, ap, _∙_}
-use Prim.Native.Nat.{ℕ, _*_, _/_, _%_, _^_, _≤_, _<_}
-use native.Mathlib.Nat.{lt-of-lt-of-le, one-mul, div-eq-of-lt, mod-eq-of-lt}
-use lib.Pow.{pow-mono, pow-lt}
+use mathlib.Core.Path.{_≡_, ap, _∙_, subst}
+use Prim.Native.Nat.{ℕ, _+_, _-_, _*_, _/_, _%_, _^_, _≤_, _<_}
+use native.Mathlib.Nat.{le-trans, lt-of-lt-of-le, one-mul, mul-le-mul, mod-le, div-eq-of-lt, mod-eq-of-lt}
+use lib.Bits.{bitAnd, and-mask}
+use lib.Pow.{pow-add, pow-mono, pow-lt}
 
 -- a one shifted to a place of the word is that power
 pub one-shifted : (w d : ℕ) → d < w → 1 * 2 ^ d % 2 ^ w ≡ 2 ^ d
 one-shifted w d h = ap (λ (x : ℕ). x % 2 ^ w) (one-mul (2 ^ d)) ∙ mod-eq-of-lt (pow-lt h)
+
+-- a small number shifted a little is not above a larger power, whatever the word drops
+pub shifted-not-above : (w c d i j y : ℕ) → c ≤ 2 ^ i → d ≤ j → 2 ^ (i + j) ≤ y → c * 2 ^ d % 2 ^ w ≤ y
+shifted-not-above w c d i j y small few large =
+    le-trans (mod-le (c * 2 ^ d) (2 ^ w)) (le-trans (mul-le-mul small (pow-mono few)) (subst (λ (x : ℕ). x ≤ y) (pow-add 2 i j) large))
 
 -- nothing of the word stands past its width
 pub high-past : (w n d : ℕ) → n < 2 ^ w → w ≤ d → n / 2 ^ d ≡ 0
@@ -15,3 +21,7 @@ high-past w n d h g = div-eq-of-lt (lt-of-lt-of-le h (pow-mono g))
 -- and all of it stands below
 pub low-past : (w n d : ℕ) → n < 2 ^ w → w ≤ d → n % 2 ^ d ≡ n
 low-past w n d h g = mod-eq-of-lt (lt-of-lt-of-le h (pow-mono g))
+
+-- a mask of d ones leaves the digits below d
+pub low-masked : (w n d : ℕ) → d < w → bitAnd n (1 * 2 ^ d % 2 ^ w - 1) ≡ n % 2 ^ d
+low-masked w n d h = ap (λ (x : ℕ). bitAnd n (x - 1)) (one-shifted w d h) ∙ and-mask n d

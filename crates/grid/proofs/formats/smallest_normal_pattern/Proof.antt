@@ -1,8 +1,8 @@
 -- `grid::formats::smallest_normal_pattern` meets its contract. Assumes nothing.
-use Prim.Native.Nat.{_≤_}
 use native.Mathlib.Omega.{arith}
 use borrow.Author.Needs.{needs}
-use Rattle.grid.proofs.Landmarks.{pattern-out-of-range, emax-small, smallest-normal-pattern-is}
+use Rattle.grid.specs.Formats.{InRange}
+use Rattle.grid.proofs.Landmarks.{pattern-out-of-range, range-passed, smallest-normal-pattern-is}
 use Rattle.grid.proofs.formats.smallest_normal_pattern.Statement.{statement}
 use Rattle.grid.proofs.formats.smallest_normal_pattern.Tie as tie
 
@@ -11,7 +11,7 @@ in-range-requires c κs = search needs
 
 sub-power-pattern : tie.Need-sub-power-pattern
 sub-power-pattern c =
-    let small : c .before .before .before .args .f .emax ≤ 1023 = search emax-small in
+    let r : InRange (c .before .before .before .args .f) = search range-passed in
     omega arith
 
 power-pattern-requires : tie.Need-power-pattern-requires

@@ -1,11 +1,9 @@
 -- `grid::places::low_part` meets its contract. Assumes nothing.
 use borrow.Author.Needs.{needs}
 use native.Mathlib.Omega.{arith}
-use mathlib.Core.Path.{sym, ap, _∙_}
-use Prim.Native.Nat.{ℕ, _-_}
-use lib.Bits.{bitAnd, and-mask}
+use mathlib.Core.Path.{sym}
 use lib.Pow.{pow-pos}
-use Rattle.laws.proofs.Words.{one-shifted, low-past}
+use Rattle.laws.proofs.Words.{one-shifted, low-past, low-masked}
 use Rattle.grid.specs.Places.{low}
 use Rattle.grid.proofs.places.low_part.Statement.{statement}
 use Rattle.grid.proofs.places.low_part.Tie as tie
@@ -18,8 +16,7 @@ sub-result c = omega (arith, one-shifted 64 (c .before .args .d) (c .if1 .taken)
 
 returns : tie.Need-returns
 unfolding low
-returns c =
-    ap (λ (x : ℕ). bitAnd (c .before .args .n) (x - 1)) (one-shifted 64 (c .before .args .d) (c .if1 .taken)) ∙ and-mask (c .before .args .n) (c .before .args .d)
+returns c = low-masked 64 (c .before .args .n) (c .before .args .d) (c .if1 .taken)
 
 returns-2 : tie.Need-returns-2
 unfolding low
