@@ -55,10 +55,8 @@ pub fn known_format(known: u64) -> Lookup
     ensures { λ r. ⌜ r ≡ lookup known ⌝ }
 {
     if known < 6 {
-        return Lookup {
-            number: 0,
-            format: TABLE[known as usize],
-        };
+        let format = TABLE[known as usize];
+        return Lookup { number: 0, format };
     }
     Lookup {
         number: 11,
