@@ -3,10 +3,13 @@ ghost use mathlib.Core.Path.{_≡_};
 ghost use Rattle.grid.specs.Patterns.{sign, mag, kindOf, ex, sig, digitsOf, powerPattern};
 use super::Kind;
 
+// The sign bit.
 const SIGN: u64 = 0x8000_0000_0000_0000;
 
+// The magnitude pattern of infinity.
 const INFINITY: u64 = 0x7FF0_0000_0000_0000;
 
+// The one in front of a normal number's fraction, which is also the smallest normal pattern.
 const HIDDEN: u64 = 0x0010_0000_0000_0000;
 
 // Whether the sign bit is set.
