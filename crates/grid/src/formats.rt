@@ -1,31 +1,24 @@
 // A format's settings and the patterns of its landmarks.
 ghost use mathlib.Core.Path.{_≡_};
-ghost use Rattle.grid.specs.Formats.{between, precisionFits, exponentFits, inRange, smallestNormal, xmax, T, patternIn};
+ghost use Rattle.grid.specs.Formats.{precisionFits, exponentFits, inRange, smallestNormal, xmax, T, patternIn};
 use super::Format;
 use super::patterns::power_pattern;
 
 // What a format out of range gets for the pattern of a landmark.
 const NO_PATTERN: u64 = 0;
 
-// Whether n is from least to most.
-fn within(least: u64, n: u64, most: u64) -> bool
-    ensures { λ r. ⌜ r ≡ between least n most ⌝ }
-{
-    least <= n && n <= most
-}
-
 // Whether p is from 2 to 53.
 pub fn precision_fits(p: u64) -> bool
     ensures { λ r. ⌜ r ≡ precisionFits p ⌝ }
 {
-    within(2, p, 53)
+    2 <= p && p <= 53
 }
 
 // Whether emax is from 1 to 1023.
 pub fn exponent_fits(emax: u64) -> bool
     ensures { λ r. ⌜ r ≡ exponentFits emax ⌝ }
 {
-    within(1, emax, 1023)
+    1 <= emax && emax <= 1023
 }
 
 // Whether the format's p and emax fit.

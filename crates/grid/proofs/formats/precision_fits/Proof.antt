@@ -1,15 +1,16 @@
 -- `grid::formats::precision_fits` meets its contract. Assumes nothing.
-use borrow.Author.Needs.{needs}
 use Rattle.grid.specs.Formats.{precisionFits}
+use Rattle.grid.proofs.Ranges.{between-asked, between-failed}
 use Rattle.grid.proofs.formats.precision_fits.Statement.{statement}
 use Rattle.grid.proofs.formats.precision_fits.Tie as tie
 
-within-requires : tie.Need-within-requires
-within-requires c κs = search needs
-
 returns : tie.Need-returns
 unfolding precisionFits
-returns c = c .within .ensures
+returns c = search between-asked
+
+returns-2 : tie.Need-returns-2
+unfolding precisionFits
+returns-2 c = search between-failed
 
 pub precision-fits-spec : {M : Type 1} → statement M
-precision-fits-spec = tie.close (tie.spec within-requires returns)
+precision-fits-spec = tie.close (tie.spec returns returns-2)
