@@ -1,4 +1,4 @@
--- How many binary digits a number has: `size n` of the kit, which is 0 for 0. Assumes nothing.
+-- How many binary digits a number has: `size n` of the toolchain's library, which is 0 for 0. Assumes nothing.
 use mathlib.Core.Path.{_≡_, sym, subst}
 use Prim.Native.Nat.{ℕ, zero, suc, _+_, _-_, _*_, _^_, _≤_, _<_, zero-le}
 use native.Mathlib.Nat.{le-refl, le-antisymm, lt-of-le-of-lt, lt-of-not-le, not-le-of-lt, mul-le-mul-right, suc-add, pow-succ'}
