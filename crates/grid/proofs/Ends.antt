@@ -13,10 +13,10 @@ use Rattle.laws.proofs.Digits.{size-shift, size-first, size-pow}
 use Rattle.laws.proofs.Multiples.{multiple-whole, ones-and-one}
 use Rattle.grid.specs.declared.Format.{Format}
 use Rattle.grid.specs.Formats.{InRange, emin, etop, zetaExp, stepExp, step, smallestNormal, zeta, xmax, T}
-use Rattle.grid.specs.Candidates.{Normal}
+use Rattle.grid.specs.Candidates.{Normal, Candidate}
 use Rattle.grid.specs.Neighbours.{Lo, Hi, lo, hi}
 use Rattle.grid.proofs.Steps.{emin-room, etop-above, zeta-no-sub, step-normal}
-use Rattle.grid.proofs.Candidates.{normal-digits}
+use Rattle.grid.proofs.Candidates.{normal-digits, whole-candidate}
 use Rattle.grid.proofs.Neighbours.{lo-is-nothing, hi-is-zeta, hi-is-hi, lo-is-lo, lo-within, hi-above}
 
 module _ (f : Format) (r : InRange f) where
@@ -67,6 +67,10 @@ module _ (f : Format) (r : InRange f) where
 
   pub xmax-below-top : xmax f < T f
   xmax-below-top = subst (λ (x : ℕ). xmax f < x) hi-of-xmax (hi-above f (xmax f))
+
+  -- so it is a candidate
+  pub xmax-candidate : Candidate f (xmax f)
+  xmax-candidate = whole-candidate f r (xmax f) xmax-below-top xmax-whole
 
   -- T is the next candidate above xmax
   pub top-is-hi : Hi f (xmax f) (T f)

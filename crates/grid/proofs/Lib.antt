@@ -2,6 +2,7 @@
 pub mod Values
 pub mod PatternKinds
 pub mod Ranges
+pub mod Signs
 pub mod Steps
 pub mod Candidates
 pub mod Neighbours

@@ -38,6 +38,11 @@ hi-above f a = lt-div-mul-add (step-positive f a)
 pub lo-below-hi : (f : Format) (a : ℕ) → lo f a < hi f a
 lo-below-hi f a = lt-of-le-of-lt (lo-not-above f a) (hi-above f a)
 
+-- the step is the gap between them: document 01's G
+pub step-is-gap : (f : Format) (a : ℕ) → step f a ≡ hi f a - lo f a
+unfolding hi
+step-is-gap f a = omega arith
+
 -- whole steps that a reaches, lo reaches, and whole steps above a, hi does not pass
 lo-reaches : (f : Format) (a n : ℕ) → n / step f a * step f a ≡ n → n ≤ a → n ≤ lo f a
 unfolding lo

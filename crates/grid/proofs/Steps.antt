@@ -44,6 +44,11 @@ module _ (f : Format) (r : InRange f) where
   unfolding emin
   emin-room = omega arith
 
+  -- the smallest normal number is not below binary64's
+  pub emin-normal : 52 ≤ emin f
+  unfolding emin
+  emin-normal = omega arith
+
   pub etop-above : emin f < etop f
   unfolding emin etop
   etop-above = omega arith
@@ -67,7 +72,7 @@ module _ (f : Format) (r : InRange f) where
       go true = omega arith
       go false = omega arith
 
-  zeta-near : emin f < f .p + zetaExp f
+  pub zeta-near : emin f < f .p + zetaExp f
   unfolding zetaExp
   zeta-near = go (f .sub)
     where

@@ -4,6 +4,7 @@ use mathlib.Core.Path.{sym, _∙_}
 use Rattle.laws.specs.Promises.{OneAnswer}
 use Rattle.grid.proofs.patterns.sign_of.Reads as sign-of
 use Rattle.grid.proofs.patterns.magnitude_of.Reads as magnitude-of
+use Rattle.grid.proofs.patterns.with_sign.Reads as with-sign
 use Rattle.grid.proofs.patterns.kind_of.Reads as kind-of
 use Rattle.grid.proofs.patterns.exponent_of.Reads as exponent-of
 use Rattle.grid.proofs.patterns.significand_of.Reads as significand-of
@@ -23,6 +24,9 @@ sign-of-unique κs a y z s t p q = p ∙ sym q
 
 pub magnitude-of-unique : OneAnswer magnitude-of.Post
 magnitude-of-unique κs a y z s t p q = p ∙ sym q
+
+pub with-sign-unique : OneAnswer with-sign.Post
+with-sign-unique κs a y z s t p q = p ∙ sym q
 
 pub kind-of-unique : OneAnswer kind-of.Post
 kind-of-unique κs a y z s t p q = p ∙ sym q

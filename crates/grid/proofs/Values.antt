@@ -3,15 +3,16 @@
 use mathlib.Core.Path.{_≡_, refl, sym, ap, ap₂, _∙_, subst}
 use mathlib.Core.Logic.{_⊎_, inl, inr}
 use Prim.Native.Nat.{ℕ, zero, suc, _+_, _-_, _*_, _/_, _%_, _^_, _≤_, _<_}
-use native.Mathlib.Nat.{le-refl, le-antisymm, le-of-lt, lt-trans, lt-irrefl, lt-of-lt-of-le, lt-of-not-le, mul-lt-mul-of-pos-right, mul-div-cancel, mul-one, mul-assoc, zero-add, div-one, div-add-mod', pow-succ', eq-zero-or-pos, eq-or-lt-of-le, le-div-iff-mul-le}
+use native.Mathlib.Nat.{le-refl, le-antisymm, le-of-lt, lt-trans, lt-irrefl, lt-of-lt-of-le, lt-of-not-le, not-le-of-lt, mul-lt-mul-of-pos-right, mul-div-cancel, mul-one, mul-assoc, zero-add, div-one, div-add-mod', pow-succ', eq-zero-or-pos, eq-or-lt-of-le, le-div-iff-mul-le}
 use native.Mathlib.Omega.{arith}
 use native.Mathlib.Decide.{le-ind}
+use lib.Dec.{ltb}
 use lib.Pow.{pow-add, pow-pos, pow-mono, shl-lt, shr-lt}
 use lib.Ieee.{size}
 use lib.Ieee.Digits.{size-lt, size-le, size-reaches}
 use Rattle.laws.proofs.Digits.{size-shift}
 use Rattle.laws.proofs.Multiples.{zeros-whole}
-use Rattle.laws.proofs.Orders.{below-or-not, le-of-not-lt}
+use Rattle.laws.proofs.Orders.{leb-alike, below-or-not, le-of-not-lt}
 use Rattle.grid.specs.Patterns.{infinity, worth, val, ex, sig, digitsOf, Short, Binary64, pat}
 
 -- ---- the two readings of a value
@@ -185,6 +186,13 @@ pat-increasing m n a b h =
 pub pat-at : (e s : ℕ) → s ≤ 2 ^ 53 → Full e s → pat (s * 2 ^ e) ≡ e * 2 ^ 52 + s
 pat-at e s most full = ap pat (sym (val-at e s most full)) ∙ pat-val (e * 2 ^ 52 + s)
 
+-- comparing a pattern with a short number's is comparing the numbers
+pub pattern-below : (m n : ℕ) → Short n → ltb m (pat n) ≡ ltb (val m) n
+pattern-below m n s =
+    leb-alike (suc m) (pat n) (suc (val m)) n
+    (λ (h : m < pat n). subst (λ (v : ℕ). val m < v) (val-pat n s) (val-increasing m (pat n) h))
+    (λ (h : val m < n). val-order m (pat n) (subst (λ (v : ℕ). val m < v) (sym (val-pat n s)) h))
+
 -- ---- counting the digits of a pattern's value
 
 -- a normal number's are counted by its exponent field
@@ -198,3 +206,17 @@ digits-normal m h =
 pub digits-subnormal : (m : ℕ) → m < 2 ^ 52 → size m ≡ digitsOf m
 unfolding digitsOf
 digits-subnormal m h = ap size (sym (val-small m (omega arith)))
+
+-- ---- orders that let two be equal
+
+-- what is worth no more is a pattern no larger
+pub val-not-above : (m n : ℕ) → val m ≤ val n → m ≤ n
+val-not-above m n h = le-of-not-lt (λ (g : n < m). not-le-of-lt (val-increasing n m g) h)
+
+-- the pattern of a short number that is at most a pattern's value is at most that pattern,
+pub pat-not-above : (n m : ℕ) → Short n → n ≤ val m → pat n ≤ m
+pat-not-above n m s h = val-not-above (pat n) m (subst (λ (v : ℕ). v ≤ val m) (sym (val-pat n s)) h)
+
+-- and of one that is at least the value at least the pattern
+pub pat-not-below : (n m : ℕ) → Short n → val m ≤ n → m ≤ pat n
+pat-not-below n m s h = val-not-above m (pat n) (subst (λ (v : ℕ). val m ≤ v) (sym (val-pat n s)) h)

@@ -17,6 +17,10 @@ sign x = leb (2 ^ 63) x
 unfoldable pub mag : ℕ → ℕ
 mag x = x % 2 ^ 63
 
+-- a magnitude with the sign of x: the sign bit of x, and all bits but the sign's of m
+unfoldable pub withSign : ℕ → ℕ → ℕ
+withSign x m = cond (sign x) (2 ^ 63 + mag m) (mag m)
+
 -- the magnitude pattern of infinity: every exponent bit set and no fraction bit
 abbrev pub infinity : ℕ
 infinity = 2047 * 2 ^ 52

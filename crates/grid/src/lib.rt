@@ -18,6 +18,7 @@ pub use patterns::magnitude_of;
 pub use patterns::power_pattern;
 pub use patterns::sign_of;
 pub use patterns::significand_of;
+pub use patterns::with_sign;
 pub use places::high_part;
 pub use places::low_part;
 

@@ -1,6 +1,6 @@
 // Reading a binary64 pattern. `x` is a whole pattern, `m` a magnitude pattern, the sign left out.
 ghost use mathlib.Core.Path.{_≡_};
-ghost use Rattle.grid.specs.Patterns.{sign, mag, kindOf, ex, sig, digitsOf, powerPattern};
+ghost use Rattle.grid.specs.Patterns.{sign, mag, withSign, kindOf, ex, sig, digitsOf, powerPattern};
 use super::Kind;
 
 // The sign bit.
@@ -24,6 +24,13 @@ pub fn magnitude_of(x: u64) -> u64
     ensures { λ r. ⌜ r ≡ mag x ⌝ }
 {
     x % SIGN
+}
+
+// The magnitude m with the sign of x.
+pub fn with_sign(x: u64, m: u64) -> u64
+    ensures { λ r. ⌜ r ≡ withSign x m ⌝ }
+{
+    x / SIGN * SIGN + m % SIGN
 }
 
 // What the pattern is: zero, a finite number, infinity or NaN.

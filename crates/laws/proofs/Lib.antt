@@ -2,6 +2,7 @@
 pub mod Digits
 pub mod Multiples
 pub mod Orders
+pub mod Scales
 pub mod Tables
 pub mod Tests
 pub mod Words

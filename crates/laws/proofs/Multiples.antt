@@ -1,8 +1,14 @@
 -- Whole multiples of a step d: `a / d * d` is the largest one that is not above a. Assumes nothing.
+use mathlib.Core.Bool.{Bool, cond}
 use mathlib.Core.Path.{_≡_, sym, ap, _∙_, subst}
-use Prim.Native.Nat.{ℕ, _+_, _-_, _*_, _/_, _^_, _≤_, _<_}
-use native.Mathlib.Nat.{add-mul, suc-mul, mul-le-mul-right, lt-of-mul-lt-mul-right, mul-assoc, one-mul, zero-mul, sub-add-cancel, div-eq-of-lt, div-eq-of-lt-le, div-mul-cancel, dvd-mul-left}
-use lib.Pow.{pow-add, suc-ones}
+use mathlib.Core.Logic.{_⊎_, inl, inr}
+use Prim.Native.Nat.{ℕ, suc, _+_, _-_, _*_, _/_, _%_, _^_, _≤_, _<_, zero-le}
+use native.Mathlib.Nat.{add-mul, suc-mul, mul-le-mul-right, lt-of-mul-lt-mul-right, mul-assoc, one-mul, zero-mul, sub-add-cancel, div-eq-of-lt, div-eq-of-lt-le, div-mul-cancel, div-mul-le-self, lt-div-mul-add, div-add-mod', dvd-mul-left, le-div-iff-mul-le, lt-of-le-of-lt, mod-lt}
+use native.Mathlib.Omega.{arith}
+use lib.Dec.{leb}
+use lib.Pow.{pow-add, pow-pos, suc-ones}
+use borrow.Author.Tests.{le-leb, lt-leb}
+use Rattle.laws.proofs.Orders.{below-or-not, le-of-not-lt}
 
 -- two multiples of d, one below the other, are at least d apart
 pub multiples-apart : (d m n : ℕ) → m * d < n * d → m * d + d ≤ n * d
@@ -33,3 +39,51 @@ pow-whole i j h = subst (λ (x : ℕ). x / 2 ^ i * 2 ^ i ≡ x) (one-mul (2 ^ j)
 -- p ones from a place on, and one more there, are a power
 pub ones-and-one : (p k : ℕ) → (2 ^ p - 1) * 2 ^ k + 2 ^ k ≡ 2 ^ (p + k)
 ones-and-one p k = sym (suc-mul (2 ^ p - 1) (2 ^ k)) ∙ ap (λ (x : ℕ). x * 2 ^ k) (suc-ones p) ∙ sym (pow-add 2 p k)
+
+-- ---- a sum cleared to whole multiples
+
+-- what is added below one step moves a number up by a step exactly where it and the rest reach one
+pub clears-carry : (d n i : ℕ) → i < d → (n + i) / d * d ≡ n / d * d + cond (leb d (n % d + i)) d 0
+clears-carry d n i small = go (below-or-not (n % d + i) d)
+  where
+    go : (n % d + i < d) ⊎ (d ≤ n % d + i) → (n + i) / d * d ≡ n / d * d + cond (leb d (n % d + i)) d 0
+    go (inl short) =
+        let whole : n / d * d + n % d ≡ n = div-add-mod' n d in
+        let stays : (n + i) / d ≡ n / d = multiples-in d (n / d) (n + i) (omega arith) (omega arith) in
+        ap (λ (q : ℕ). q * d) stays ∙ omega arith ∙ ap (λ (b : Bool). n / d * d + cond b d 0) (sym (lt-leb d (n % d + i) short))
+    go (inr reached) =
+        let whole : n / d * d + n % d ≡ n = div-add-mod' n d in
+        let next : suc (n / d) * d ≡ n / d * d + d = suc-mul (n / d) d in
+        let under : n % d < d = mod-lt n (lt-of-le-of-lt zero-le small) in
+        let moves : (n + i) / d ≡ suc (n / d) = multiples-in d (suc (n / d)) (n + i) (omega arith) (omega arith) in
+        ap (λ (q : ℕ). q * d) moves ∙ next ∙ ap (λ (b : Bool). n / d * d + cond b d 0) (sym (le-leb d (n % d + i) reached))
+
+-- digits from a place on that is not below the cut are not touched
+pub clears-past : (i j q n : ℕ) → i ≤ j → (q * 2 ^ j + n) / 2 ^ i * 2 ^ i ≡ q * 2 ^ j + n / 2 ^ i * 2 ^ i
+clears-past i j q n h =
+    let d = 2 ^ i in
+    let b = q * 2 ^ j / d in
+    let whole : b * d ≡ q * 2 ^ j = zeros-whole q i j h in
+    let split : (b + n / d) * d ≡ b * d + n / d * d = add-mul b (n / d) d in
+    let least : n / d * d ≤ n = div-mul-le-self n d in
+    let below : n < n / d * d + d = lt-div-mul-add (pow-pos i) in
+    ap (λ (x : ℕ). x * d) (multiples-in d (b + n / d) (q * 2 ^ j + n) (omega arith) (omega arith)) ∙ split ∙ ap (λ (x : ℕ). x + n / d * d) whole
+
+-- a power that a number reaches, its multiples reach
+pub clears-least : (i j n : ℕ) → i ≤ j → 2 ^ j ≤ n → 2 ^ j ≤ n / 2 ^ i * 2 ^ i
+clears-least i j n h reached =
+    let d = 2 ^ i in
+    subst (λ (x : ℕ). x ≤ n / d * d) (pow-whole i j h)
+    (mul-le-mul-right d (le-div-iff-mul-le (pow-pos i) .1 (subst (λ (x : ℕ). x ≤ n) (sym (pow-whole i j h)) reached)))
+
+-- and a power that a number misses by less than a step, they do not pass
+pub clears-most : (i j n : ℕ) → i ≤ j → n < 2 ^ j + 2 ^ i → n / 2 ^ i * 2 ^ i ≤ 2 ^ j
+clears-most i j n h near = le-of-not-lt missed
+  where
+    missed : 2 ^ j < n / 2 ^ i * 2 ^ i → ⊥
+    missed past =
+        let d = 2 ^ i in
+        let whole : 2 ^ j / d * d ≡ 2 ^ j = pow-whole i j h in
+        let apart : 2 ^ j / d * d + d ≤ n / d * d = multiples-apart d (2 ^ j / d) (n / d) (omega arith) in
+        let least : n / d * d ≤ n = div-mul-le-self n d in
+        omega arith

@@ -1,0 +1,279 @@
+-- What is computed is what is meant: rounding by the settings of a format in range and a mode gives the rounded pattern. One
+-- law carries it, `taken-is-cleared`: in every mode the candidate taken is the significand with the mode's increment added
+-- below the place and the digits there cleared. Assumes nothing.
+use mathlib.Core.Bool.{Bool, true, false, cond}
+use mathlib.Core.Path.{_≡_, refl, sym, ap, ap₂, _∙_, subst}
+use mathlib.Core.Logic.{_⊎_, inl, inr}
+use Prim.Native.Nat.{ℕ, _+_, _-_, _*_, _/_, _%_, _^_, _≤_, _<_, min}
+use native.Mathlib.Nat.{mul-assoc, add-mul, mod-lt, div-add-mod', add-zero, mul-pos, eq-zero-or-pos, zero-mul, zero-add, one-mul, div-eq-of-lt, mod-eq-of-lt}
+use native.Mathlib.Omega.{arith}
+use lib.Dec.{leb, ltb, lit<}
+use lib.Pow.{pow-add, pow-pos, pow-mono}
+use lib.Ieee.Digits.{size-le}
+use borrow.Author.Tests.{lt-ltb, le-ltb, lt-leb, eq-eqb, ne-eqb}
+use Rattle.laws.proofs.Multiples.{clears-carry, clears-past, clears-least, clears-most}
+use Rattle.laws.proofs.Orders.{below-or-not}
+use Rattle.laws.proofs.Scales.{scale-div}
+use Rattle.grid.specs.declared.Format.{Format}
+use Rattle.grid.specs.declared.Kind.{Kind}
+use Rattle.grid.specs.declared.Kind.the-variants.{Zero, Finite, Infinity, NaN}
+use Rattle.grid.specs.Patterns.{sign, mag, withSign, infinity, kindOf, val, ex, sig, digitsOf, pat, Short}
+use Rattle.grid.specs.Places.{high}
+use Rattle.grid.specs.Formats.{InRange, emin, zetaExp, zeta, stepExp, step, xmax, T}
+use Rattle.grid.specs.Neighbours.{lo, hi}
+use Rattle.grid.proofs.Values.{val-product, val-small, val-pat, pat-val, pattern-below, val-at, Full, sig-full, digits-normal, digits-subnormal}
+use Rattle.grid.proofs.PatternKinds.{finite-positive}
+use Rattle.grid.proofs.Candidates.{top-short}
+use Rattle.grid.proofs.Steps.{step-normal, step-small, emin-normal, zeta-near}
+use Rattle.rounding.specs.declared.Mode.{Mode}
+use Rattle.rounding.specs.Modes.{takesHi, overflows, ModeFits}
+use Rattle.rounding.specs.Rounded.{taken, written, goesTo, rounded, answerTo}
+use Rattle.rounding.specs.Increments.{increment}
+use Rattle.rounding.specs.Settled.{settings, place, kept, trace, unkept, moved, settledTo, settled}
+use Rattle.rounding.proofs.Choices.{increment-below, choice-by-increment, choice-scales, choice-far, trace-small}
+
+module _ (f : Format) (r : InRange f) (mode : Mode) where
+  -- ---- the place is the step's, counted from the significand's last digit
+
+  -- a pattern's digits, by whether it is a normal number of binary64
+  abbrev DigitCases : ℕ → Type 0
+  DigitCases m = ((m < 2 ^ 52) × (digitsOf m ≤ 52)) ⊎ ((2 ^ 52 ≤ m) × (m / 2 ^ 52 + 52 ≡ digitsOf m))
+
+  digit-cases : (m : ℕ) → DigitCases m
+  digit-cases m = go (below-or-not m (2 ^ 52))
+    where
+      go : (m < 2 ^ 52) ⊎ (2 ^ 52 ≤ m) → DigitCases m
+      go (inl h) = inl (h, subst (λ (n : ℕ). n ≤ 52) (digits-subnormal m h) (size-le m 52 h))
+      go (inr h) = inr (h, digits-normal m h)
+
+  -- in the normal range of the target
+  place-large : (m : ℕ) → emin f < digitsOf m → (place (settings f mode) m ≡ 53 - f .p) × (place (settings f mode) m + ex m ≡ stepExp f (digitsOf m))
+  unfolding place settings
+  place-large m h =
+      let cut : place (settings f mode) m ≡ 53 - f .p = ap (λ (b : Bool). cond b (53 - f .p) (zetaExp f - ex m)) (lt-ltb (emin f) (digitsOf m) h) in
+      (cut, go cut (step-normal f (digitsOf m) h) (emin-normal f r) (digit-cases m))
+    where
+      go : place (settings f mode) m ≡ 53 - f .p → stepExp f (digitsOf m) ≡ digitsOf m - f .p → 52 ≤ emin f → DigitCases m
+          → place (settings f mode) m + ex m ≡ stepExp f (digitsOf m)
+      go cut own least (inl c) = omega arith
+      go cut own least (inr c) = omega arith
+
+  -- and below it
+  place-small : (m : ℕ) → digitsOf m ≤ emin f → (stepExp f (digitsOf m) ≡ zetaExp f) × (place (settings f mode) m + ex m ≡ stepExp f (digitsOf m))
+  unfolding place settings
+  place-small m h =
+      let cut : place (settings f mode) m ≡ zetaExp f - ex m = ap (λ (b : Bool). cond b (53 - f .p) (zetaExp f - ex m)) (le-ltb (emin f) (digitsOf m) h) in
+      let own = step-small f (digitsOf m) h in
+      (own, go cut own (zeta-near f r) (digit-cases m))
+    where
+      go : place (settings f mode) m ≡ zetaExp f - ex m → stepExp f (digitsOf m) ≡ zetaExp f → emin f < f .p + zetaExp f → DigitCases m
+          → place (settings f mode) m + ex m ≡ stepExp f (digitsOf m)
+      go cut own near (inl c) = omega arith
+      go cut own near (inr c) = omega arith
+
+  pub place-is-step : (m : ℕ) → place (settings f mode) m + ex m ≡ stepExp f (digitsOf m)
+  place-is-step m = go (below-or-not (emin f) (digitsOf m))
+    where
+      go : (emin f < digitsOf m) ⊎ (digitsOf m ≤ emin f) → place (settings f mode) m + ex m ≡ stepExp f (digitsOf m)
+      go (inl h) = place-large m h .1
+      go (inr h) = place-small m h .1
+
+  -- where no digit is kept the step is zeta
+  place-unkept : (m : ℕ) → 53 ≤ place (settings f mode) m → place (settings f mode) m + ex m ≡ zetaExp f
+  place-unkept m far = go (below-or-not (emin f) (digitsOf m))
+    where
+      go : (emin f < digitsOf m) ⊎ (digitsOf m ≤ emin f) → place (settings f mode) m + ex m ≡ zetaExp f
+      go (inl h) = let c = place-large m h in absurd (omega arith)
+      go (inr h) = let c = place-small m h in c .1 ∙ c .0
+
+-- ---- lo, hi and the choice, scaled down to the significand
+
+module _ (f : Format) (m d : ℕ) (at : d + ex m ≡ stepExp f (digitsOf m)) where
+  step-scaled : step f (val m) ≡ 2 ^ d * 2 ^ ex m
+  unfolding step digitsOf
+  step-scaled = ap (λ (k : ℕ). 2 ^ k) (sym at) ∙ pow-add 2 d (ex m)
+
+  count-scaled : val m / step f (val m) ≡ sig m / 2 ^ d
+  unfolding step digitsOf
+  count-scaled = ap₂ (λ (x k : ℕ). x / 2 ^ k) (val-product m) (sym at) ∙ scale-div (sig m) d (ex m)
+
+  lo-scaled : lo f (val m) ≡ sig m / 2 ^ d * 2 ^ d * 2 ^ ex m
+  unfolding lo
+  lo-scaled = ap₂ (λ (x y : ℕ). x * y) count-scaled step-scaled ∙ sym (mul-assoc (sig m / 2 ^ d) (2 ^ d) (2 ^ ex m))
+
+  hi-scaled : hi f (val m) ≡ (sig m / 2 ^ d * 2 ^ d + 2 ^ d) * 2 ^ ex m
+  unfolding hi
+  hi-scaled = ap₂ (λ (x y : ℕ). x + y) lo-scaled step-scaled ∙ sym (add-mul (sig m / 2 ^ d * 2 ^ d) (2 ^ d) (2 ^ ex m))
+
+  -- a is lo and the rest
+  value-scaled : val m ≡ lo f (val m) + sig m % 2 ^ d * 2 ^ ex m
+  value-scaled =
+      val-product m ∙ ap (λ (x : ℕ). x * 2 ^ ex m) (sym (div-add-mod' (sig m) (2 ^ d)))
+      ∙ add-mul (sig m / 2 ^ d * 2 ^ d) (sig m % 2 ^ d) (2 ^ ex m)
+      ∙ ap (λ (x : ℕ). x + sig m % 2 ^ d * 2 ^ ex m) (sym lo-scaled)
+
+  rest-scaled : val m - lo f (val m) ≡ sig m % 2 ^ d * 2 ^ ex m
+  rest-scaled = omega (arith, value-scaled)
+
+  module _ (mode : Mode) (negative : Bool) (word : ℕ) where
+    -- what the mode adds below the place
+    abbrev added : ℕ
+    added = increment mode negative (sig m / 2 ^ d) (2 ^ d) word
+
+    -- the choice is whether the rest of the significand and the increment reach the place
+    choice-scaled : 0 < sig m % 2 ^ d
+        → takesHi mode negative (val m / step f (val m)) (val m - lo f (val m)) (step f (val m)) word ≡ leb (2 ^ d) (sig m % 2 ^ d + added)
+    choice-scaled some =
+        ap (λ (x : ℕ). takesHi mode negative x (val m - lo f (val m)) (step f (val m)) word) count-scaled
+        ∙ ap₂ (λ (x y : ℕ). takesHi mode negative (sig m / 2 ^ d) x y word) rest-scaled step-scaled
+        ∙ choice-scales mode negative (sig m / 2 ^ d) (sig m % 2 ^ d) (2 ^ d) (2 ^ ex m) word (pow-pos (ex m))
+        ∙ choice-by-increment mode negative (sig m / 2 ^ d) (sig m % 2 ^ d) d word some (mod-lt (sig m) (pow-pos d))
+
+    lo-or-hi : (b : Bool) → cond b (hi f (val m)) (lo f (val m)) ≡ (sig m / 2 ^ d * 2 ^ d + cond b (2 ^ d) 0) * 2 ^ ex m
+    lo-or-hi true = hi-scaled
+    lo-or-hi false = lo-scaled ∙ ap (λ (x : ℕ). x * 2 ^ ex m) (sym (add-zero (sig m / 2 ^ d * 2 ^ d)))
+
+    -- In every mode, the candidate that a magnitude goes to is its significand with the increment added below the place and
+    -- the digits there cleared.
+    pub taken-is-cleared : taken f mode negative word (val m) ≡ (sig m + added) / 2 ^ d * 2 ^ d * 2 ^ ex m
+    unfolding taken
+    taken-is-cleared =
+        go (eq-zero-or-pos (sig m % 2 ^ d))
+        ∙ ap (λ (x : ℕ). x * 2 ^ ex m) (sym (clears-carry (2 ^ d) (sig m) added small))
+      where
+        small : added < 2 ^ d
+        small = increment-below mode negative (sig m / 2 ^ d) (2 ^ d) word (pow-pos d)
+
+        chosen : Bool → ℕ
+        chosen exact = cond exact (val m) (cond (takesHi mode negative (val m / step f (val m)) (val m - lo f (val m)) (step f (val m)) word) (hi f (val m)) (lo f (val m)))
+
+        go : (sig m % 2 ^ d ≡ 0) ⊎ (0 < sig m % 2 ^ d)
+            → taken f mode negative word (val m) ≡ (sig m / 2 ^ d * 2 ^ d + cond (leb (2 ^ d) (sig m % 2 ^ d + added)) (2 ^ d) 0) * 2 ^ ex m
+        go (inl none) =
+            let exact : val m ≡ lo f (val m) = value-scaled ∙ ap (λ (x : ℕ). lo f (val m) + x * 2 ^ ex m) none ∙ omega (arith, zero-mul (2 ^ ex m)) in
+            let stays : leb (2 ^ d) (sig m % 2 ^ d + added) ≡ false = lt-leb (2 ^ d) (sig m % 2 ^ d + added) (omega (arith, small)) in
+            ap chosen (eq-eqb (val m) (lo f (val m)) exact) ∙ exact ∙ lo-or-hi false
+            ∙ ap (λ (b : Bool). (sig m / 2 ^ d * 2 ^ d + cond b (2 ^ d) 0) * 2 ^ ex m) (sym stays)
+        go (inr some) =
+            let gap : 0 < sig m % 2 ^ d * 2 ^ ex m = mul-pos some (pow-pos (ex m)) in
+            ap chosen (ne-eqb (val m) (lo f (val m)) (λ (e : val m ≡ lo f (val m)). omega (arith, value-scaled, gap)))
+            ∙ ap (λ (b : Bool). cond b (hi f (val m)) (lo f (val m))) (choice-scaled some)
+            ∙ lo-or-hi (leb (2 ^ d) (sig m % 2 ^ d + added))
+
+-- ---- the pattern that the code makes has that value
+
+-- where a digit is kept: clearing the pattern clears the significand, and a carry raises the exponent
+kept-value : (m i d : ℕ) → i < 2 ^ d → d < 53 → val ((m + i) / 2 ^ d * 2 ^ d) ≡ (sig m + i) / 2 ^ d * 2 ^ d * 2 ^ ex m
+kept-value m i d small few =
+    let places : d ≤ 52 = omega arith in
+    let pattern : m + i ≡ ex m * 2 ^ 52 + (sig m + i) = omega arith in
+    let most : (sig m + i) / 2 ^ d * 2 ^ d ≤ 2 ^ 53 = clears-most d 53 (sig m + i) (omega arith) (omega arith) in
+    ap (λ (x : ℕ). val (x / 2 ^ d * 2 ^ d)) pattern
+    ∙ ap val (clears-past d 52 (ex m) (sig m + i) places)
+    ∙ val-at (ex m) ((sig m + i) / 2 ^ d * 2 ^ d) most (go places (sig-full m))
+  where
+    go : d ≤ 52 → Full (ex m) (sig m) → Full (ex m) ((sig m + i) / 2 ^ d * 2 ^ d)
+    go places (inl none) = inl none
+    go places (inr full) = inr (clears-least d 52 (sig m + i) places (omega arith))
+
+-- Where none is kept, the choice is between 0 and one step. It may be made at a nearer place, by what is left of the
+-- significand there.
+module _ (mode : Mode) (fits : ModeFits mode) (negative : Bool) (word n d : ℕ) (some : 0 < n) (few : n < 2 ^ 53) (far : 53 ≤ d) where
+  choice-nearer : takesHi mode negative 0 (trace n (d - min d 63)) (2 ^ min d 63) word ≡ takesHi mode negative 0 n (2 ^ d) word
+  unfolding trace high
+  choice-nearer = go (below-or-not d 63)
+    where
+      go : (d < 63) ⊎ (63 ≤ d) → takesHi mode negative 0 (trace n (d - min d 63)) (2 ^ min d 63) word ≡ takesHi mode negative 0 n (2 ^ d) word
+      go (inl near) =
+          let same : min d 63 ≡ d = omega arith in
+          let none : d - min d 63 ≡ 0 = omega arith in
+          let all : trace n 0 ≡ n = omega arith in
+          ap₂ (λ (x k : ℕ). takesHi mode negative 0 x (2 ^ k) word) (ap (trace n) none ∙ all) same
+      go (inr past) =
+          let last : min d 63 ≡ 63 = omega arith in
+          ap (λ (k : ℕ). takesHi mode negative 0 (trace n (d - k)) (2 ^ k) word) last ∙ sym (choice-far mode negative n d word fits few past)
+
+  reaches-nearer :
+      leb (2 ^ min d 63) (trace n (d - min d 63) + increment mode negative 0 (2 ^ min d 63) word) ≡ leb (2 ^ d) (n + increment mode negative 0 (2 ^ d) word)
+  unfolding trace
+  reaches-nearer =
+      let c = min d 63 in
+      let wide : 2 ^ 53 ≤ 2 ^ c = pow-mono {i = 53} {j = c} (omega arith) in
+      let wider : 2 ^ 53 ≤ 2 ^ d = pow-mono {i = 53} {j = d} far in
+      let small : trace n (d - c) < 2 ^ 53 = trace-small n (d - c) few in
+      sym (choice-by-increment mode negative 0 (trace n (d - c)) c word (omega arith) (omega arith))
+      ∙ choice-nearer
+      ∙ choice-by-increment mode negative 0 n d word some (omega arith)
+
+module _ (f : Format) (r : InRange f) (mode : Mode) (fits : ModeFits mode) (negative : Bool) (word m : ℕ) (some : 0 < m) where
+  zeta-short : Short (zeta f)
+  unfolding zeta
+  zeta-short = record { m = 1; place = zetaExp f; fits = lit< tt; is = sym (one-mul (2 ^ zetaExp f)) }
+
+  unkept-value : (d : ℕ) → 53 ≤ d → d + ex m ≡ zetaExp f
+      → val (unkept (settings f mode) negative word m d) ≡ (sig m + increment mode negative (sig m / 2 ^ d) (2 ^ d) word) / 2 ^ d * 2 ^ d * 2 ^ ex m
+  unfolding unkept settings zeta
+  unkept-value d far at =
+      let D = 2 ^ d in
+      let i = increment mode negative 0 D word in
+      let wide : 2 ^ 53 ≤ D = pow-mono {i = 53} {j = d} far in
+      let none : sig m / D ≡ 0 = div-eq-of-lt (omega arith) in
+      let all : sig m % D ≡ sig m = mod-eq-of-lt (omega arith) in
+      let cleared : (sig m + i) / D * D ≡ cond (leb D (sig m + i)) D 0 =
+      clears-carry D (sig m) i (increment-below mode negative 0 D word (pow-pos d))
+      ∙ ap₂ (λ (x y : ℕ). x * D + cond (leb D (y + i)) D 0) none all
+      ∙ ap (λ (x : ℕ). x + cond (leb D (sig m + i)) D 0) (zero-mul D)
+      ∙ zero-add (cond (leb D (sig m + i)) D 0) in
+      ap (λ (b : Bool). val (cond b (pat (2 ^ zetaExp f)) 0)) (reaches-nearer mode fits negative word (sig m) d (omega arith) (omega arith) far)
+      ∙ go (leb D (sig m + i))
+      ∙ ap (λ (x : ℕ). x * 2 ^ ex m) (sym cleared)
+      ∙ ap (λ (q : ℕ). (sig m + increment mode negative q D word) / D * D * 2 ^ ex m) (sym none)
+    where
+      go : (b : Bool) → val (cond b (pat (2 ^ zetaExp f)) 0) ≡ cond b (2 ^ d) 0 * 2 ^ ex m
+      go true = val-pat (2 ^ zetaExp f) zeta-short ∙ ap (λ (k : ℕ). 2 ^ k) (sym at) ∙ pow-add 2 d (ex m)
+      go false = val-small 0 (lit< tt) ∙ sym (zero-mul (2 ^ ex m))
+
+  -- ---- below T what is made is worth the candidate taken
+
+  pub moved-value : val (moved (settings f mode) negative word m) ≡ taken f mode negative word (val m)
+  unfolding moved kept settings high
+  moved-value = go (below-or-not d 53) ∙ sym (taken-is-cleared f m d (place-is-step f r mode m) mode negative word)
+    where
+      d : ℕ
+      d = place (settings f mode) m
+
+      i : ℕ
+      i = increment mode negative (sig m / 2 ^ d) (2 ^ d) word
+
+      go : (d < 53) ⊎ (53 ≤ d) → val (moved (settings f mode) negative word m) ≡ (sig m + i) / 2 ^ d * 2 ^ d * 2 ^ ex m
+      go (inl few) =
+          ap (λ (b : Bool). val (cond b (kept (settings f mode) negative word m d) (unkept (settings f mode) negative word m d))) (lt-ltb d 53 few)
+          ∙ kept-value m i d (increment-below mode negative (sig m / 2 ^ d) (2 ^ d) word (pow-pos d)) few
+      go (inr far) =
+          ap (λ (b : Bool). val (cond b (kept (settings f mode) negative word m d) (unkept (settings f mode) negative word m d))) (le-ltb d 53 far)
+          ∙ unkept-value d far (place-unkept f r mode m far)
+
+  -- ---- so the patterns are the same
+
+  pub settled-goes-to : settledTo (settings f mode) negative word m ≡ goesTo f mode negative word (val m)
+  unfolding settledTo settings goesTo written
+  settled-goes-to =
+      let y = moved (settings f mode) negative word m in
+      let over = cond (overflows mode negative) infinity (pat (xmax f)) in
+      let worth : val y ≡ taken f mode negative word (val m) = moved-value in
+      ap (λ (b : Bool). cond b (cond (ltb y (pat (T f))) y infinity) over) (pattern-below m (T f) (top-short f r))
+      ∙ ap (λ (z : ℕ). cond (ltb (val m) (T f)) z over)
+      (ap₂ (λ (b : Bool) (z : ℕ). cond b z infinity)
+      (pattern-below y (T f) (top-short f r) ∙ ap (λ (v : ℕ). ltb v (T f)) worth)
+      (sym (pat-val y) ∙ ap pat worth))
+
+-- Rounding by the settings of a format and a mode is what document 01 says, for every pattern and every word.
+pub settled-is-rounded : (f : Format) → InRange f → (mode : Mode) → ModeFits mode → (word x : ℕ) → settled (settings f mode) word x ≡ rounded f mode word x
+unfolding settled rounded answerTo
+settled-is-rounded f r mode fits word x = go (kindOf x) refl
+  where
+    go : (k : Kind) → kindOf x ≡ k → answerTo k x (settledTo (settings f mode) (sign x) word (mag x)) ≡ answerTo k x (goesTo f mode (sign x) word (val (mag x)))
+    go Zero e = refl
+    go Finite e = ap (withSign x) (settled-goes-to f r mode fits (sign x) word (mag x) (finite-positive x e))
+    go Infinity e = refl
+    go NaN e = refl

@@ -1,0 +1,145 @@
+-- The answer to a pattern: what comes back unaltered, that the sign is kept, that it is a candidate of the format, and whether
+-- it is lo or hi for a finite number below T. Assumes nothing.
+use mathlib.Core.Bool.{Bool, true, false, cond}
+use mathlib.Core.Path.{_≡_, refl, sym, ap, _∙_, subst}
+use mathlib.Core.Logic.{_⊎_, inl, inr}
+use Prim.Native.Nat.{ℕ, _+_, _-_, _/_, _^_, _<_}
+use native.Mathlib.Nat.{sub-self, mod-eq-of-lt, lt-of-le-of-lt, eq-or-lt-of-le}
+use lib.Dec.{leb, lit<}
+use Rattle.grid.specs.declared.Format.{Format}
+use Rattle.grid.specs.declared.Kind.{Kind}
+use Rattle.grid.specs.declared.Kind.the-variants.{Zero, Finite, Infinity, NaN}
+use Rattle.grid.specs.Patterns.{sign, mag, withSign, kindOf, val}
+use Rattle.grid.specs.Formats.{InRange, step, T}
+use Rattle.grid.specs.Candidates.{Candidate}
+use Rattle.grid.specs.Neighbours.{lo, hi}
+use Rattle.grid.proofs.Values.{pat-val}
+use Rattle.grid.proofs.PatternKinds.{finite-or-not}
+use Rattle.grid.proofs.Signs.{with-own-sign, magnitude-with-sign, sign-with-sign, with-sign-fits}
+use Rattle.grid.proofs.Candidates.{candidate-whole}
+use Rattle.grid.proofs.Neighbours.{lo-not-above}
+use Rattle.rounding.specs.declared.Mode.{Mode}
+use Rattle.rounding.specs.declared.Mode.the-variants.{Stochastic}
+use Rattle.rounding.specs.Modes.{K, u, takesHi}
+use Rattle.rounding.specs.Rounded.{taken, written, goesTo, answerTo, rounded}
+use Rattle.rounding.proofs.Choices.{stochastic-exact}
+use Rattle.rounding.proofs.Destinations.{below-written, exact-taken, choice-taken, below-goes, goes-to-candidate, goes-most}
+
+module _ (f : Format) (mode : Mode) (word x : ℕ) where
+  -- ---- by what the pattern is
+
+  by-kind : (k : Kind) → kindOf x ≡ k → rounded f mode word x ≡ answerTo k x (goesTo f mode (sign x) word (val (mag x)))
+  unfolding rounded
+  by-kind k kind = ap (λ (t : Kind). answerTo t x (goesTo f mode (sign x) word (val (mag x)))) kind
+
+  -- zeros, infinities and NaNs come back unaltered
+  pub zero-comes-back : kindOf x ≡ Zero → rounded f mode word x ≡ x
+  unfolding answerTo
+  zero-comes-back = by-kind Zero
+
+  pub infinity-comes-back : kindOf x ≡ Infinity → rounded f mode word x ≡ x
+  unfolding answerTo
+  infinity-comes-back = by-kind Infinity
+
+  pub nan-comes-back : kindOf x ≡ NaN → rounded f mode word x ≡ x
+  unfolding answerTo
+  nan-comes-back = by-kind NaN
+
+  -- a finite number keeps its sign, and its magnitude goes where the mode says
+  pub finite-answer : kindOf x ≡ Finite → rounded f mode word x ≡ withSign x (goesTo f mode (sign x) word (val (mag x)))
+  unfolding answerTo
+  finite-answer = by-kind Finite
+
+  -- every pattern but a finite number comes back unaltered
+  pub specials-come-back : (kindOf x ≡ Finite → ⊥) → rounded f mode word x ≡ x
+  specials-come-back special = go (kindOf x) refl
+    where
+      go : (k : Kind) → kindOf x ≡ k → rounded f mode word x ≡ x
+      go Zero kind = zero-comes-back kind
+      go Finite kind = absurd (special kind)
+      go Infinity kind = infinity-comes-back kind
+      go NaN kind = nan-comes-back kind
+
+  -- every answer has the input's sign, on zero too
+  pub sign-kept : sign (rounded f mode word x) ≡ sign x
+  sign-kept = go (finite-or-not x)
+    where
+      go : (kindOf x ≡ Finite) ⊎ (kindOf x ≡ Finite → ⊥) → sign (rounded f mode word x) ≡ sign x
+      go (inl finite) = ap sign (finite-answer finite) ∙ sign-with-sign x (goesTo f mode (sign x) word (val (mag x)))
+      go (inr special) = ap sign (specials-come-back special)
+
+  -- and is a word, as the input is
+  pub answer-fits : x < 2 ^ 64 → rounded f mode word x < 2 ^ 64
+  answer-fits fits = go (finite-or-not x)
+    where
+      go : (kindOf x ≡ Finite) ⊎ (kindOf x ≡ Finite → ⊥) → rounded f mode word x < 2 ^ 64
+      go (inl finite) = subst (λ (y : ℕ). y < 2 ^ 64) (sym (finite-answer finite)) (with-sign-fits x (goesTo f mode (sign x) word (val (mag x))))
+      go (inr special) = subst (λ (y : ℕ). y < 2 ^ 64) (sym (specials-come-back special)) fits
+
+  module _ (r : InRange f) where
+    -- ---- numbers of the format
+
+    -- a finite number's answer has the magnitude that its own goes to
+    pub magnitude-answered : kindOf x ≡ Finite → mag (rounded f mode word x) ≡ goesTo f mode (sign x) word (val (mag x))
+    unfolding mag
+    magnitude-answered finite =
+        let m = goesTo f mode (sign x) word (val (mag x)) in
+        ap mag (finite-answer finite) ∙ magnitude-with-sign x m ∙ mod-eq-of-lt (lt-of-le-of-lt (goes-most f r mode (sign x) word (val (mag x))) (lit< tt))
+
+    -- it is a candidate of the format, with the input's sign
+    pub answer-is-candidate : kindOf x ≡ Finite → (c : ℕ) × Candidate f c × (rounded f mode word x ≡ withSign x (written f c))
+    answer-is-candidate finite =
+        let to = goes-to-candidate f r mode (sign x) word (val (mag x)) in
+        (to .0, to .1, finite-answer finite ∙ ap (withSign x) (to .2))
+
+    -- a pattern whose magnitude is a number of the format comes back unaltered
+    pub candidate-comes-back : x < 2 ^ 64 → Candidate f (val (mag x)) → val (mag x) < T f → rounded f mode word x ≡ x
+    candidate-comes-back fits among below = go (finite-or-not x)
+      where
+        go : (kindOf x ≡ Finite) ⊎ (kindOf x ≡ Finite → ⊥) → rounded f mode word x ≡ x
+        go (inl finite) =
+            let a = val (mag x) in
+            finite-answer finite
+            ∙ ap (withSign x)
+            (below-goes f mode (sign x) word a below
+            ∙ ap (written f) (exact-taken f mode (sign x) word a (candidate-whole f r a among))
+            ∙ below-written f a below
+            ∙ pat-val (mag x))
+            ∙ with-own-sign x fits
+        go (inr special) = specials-come-back special
+
+-- ---- finite numbers below T
+
+module _ (f : Format) (word x : ℕ) (finite : kindOf x ≡ Finite) (a : ℕ) (is : val (mag x) ≡ a) (below : a < T f) where
+  -- the answer is the candidate that is taken, with the input's sign
+  answer-is : (mode : Mode) (c : ℕ) → taken f mode (sign x) word a ≡ c → rounded f mode word x ≡ withSign x (written f c)
+  answer-is mode c e =
+      finite-answer f mode word x finite
+      ∙ ap (λ (n : ℕ). withSign x (goesTo f mode (sign x) word n)) is
+      ∙ ap (withSign x) (below-goes f mode (sign x) word a below ∙ ap (written f) e)
+
+  -- between two candidates it is lo or hi, as the table says
+  module _ (mode : Mode) (inexact : lo f a < a) where
+    pub answer-is-lo : takesHi mode (sign x) (a / step f a) (a - lo f a) (step f a) word ≡ false
+        → rounded f mode word x ≡ withSign x (written f (lo f a))
+    answer-is-lo choice = answer-is mode (lo f a) (choice-taken f mode (sign x) word a inexact false choice)
+
+    pub answer-is-hi : takesHi mode (sign x) (a / step f a) (a - lo f a) (step f a) word ≡ true
+        → rounded f mode word x ≡ withSign x (written f (hi f a))
+    answer-is-hi choice = answer-is mode (hi f a) (choice-taken f mode (sign x) word a inexact true choice)
+
+  -- stochastic rounding is document 01's test of K + u, with no exception for exact inputs
+  pub stochastic-answer : (r : ℕ) → rounded f (Stochastic r) word x
+      ≡ withSign x (written f (cond (leb (2 ^ r) (K r (a - lo f a) (step f a) + u r word)) (hi f a) (lo f a)))
+  unfolding takesHi
+  stochastic-answer r = answer-is (Stochastic r) (cond (test (a - lo f a)) (hi f a) (lo f a)) (go (eq-or-lt-of-le (lo-not-above f a)))
+    where
+      test : ℕ → Bool
+      test rest = leb (2 ^ r) (K r rest (step f a) + u r word)
+
+      go : (lo f a ≡ a) ⊎ (lo f a < a) → taken f (Stochastic r) (sign x) word a ≡ cond (test (a - lo f a)) (hi f a) (lo f a)
+      go (inl exact) =
+          let none : a - lo f a ≡ 0 = ap (λ (n : ℕ). a - n) exact ∙ sub-self a in
+          exact-taken f (Stochastic r) (sign x) word a exact
+          ∙ sym (ap (λ (b : Bool). cond b (hi f a) (lo f a)) (ap test none ∙ stochastic-exact r (sign x) 0 (step f a) word) ∙ exact)
+      go (inr inexact) = choice-taken f (Stochastic r) (sign x) word a inexact (test (a - lo f a)) refl

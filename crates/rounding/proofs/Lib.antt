@@ -1,0 +1,16 @@
+-- The laws about rounding, a subject a file: first the choice between lo and hi and what it comes to, then that what is
+-- computed is what is meant, then the laws by which the code is proved.
+pub mod Choices
+pub mod Destinations
+pub mod Answers
+pub mod Words
+pub mod Nearest
+pub mod Directed
+pub mod Agreement
+pub mod ModeTables
+pub mod Increments
+pub mod Landmarks
+pub mod Settling
+pub mod Refusals
+pub mod WholeCalls
+pub mod Unique

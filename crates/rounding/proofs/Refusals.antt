@@ -1,0 +1,86 @@
+-- The refusals, as the code comes to them, and what a call that is not refused may lean on. Assumes nothing.
+use mathlib.Core.Bool.{Bool, true, false, cond, not, _&&_}
+use mathlib.Core.Path.{_≡_, refl, sym, _∙_}
+use Prim.Native.Nat.{ℕ, zero, suc, _≤_, _<_}
+use native.Mathlib.Omega.{arith}
+use lib.Dec.{ltb, eqb}
+use borrow.Author.Tests.{lt-ltb, le-ltb, eq-eqb, ne-eqb}
+use Rattle.grid.specs.declared.Format.{Format}
+use Rattle.grid.specs.Formats.{between, precisionFits, exponentFits, inRange}
+use Rattle.grid.proofs.Ranges.{between-least, between-most}
+use Rattle.rounding.specs.Modes.{modeOf, ModeFits}
+use Rattle.rounding.specs.Calls.{bitsFit, refusal}
+
+-- ---- one test after the other
+
+module _ (f : Format) (mode r : ℕ) (p : Bool) (p-tested : p ≡ precisionFits (f .p)) where
+  pub refuses-precision : not p ≡ true → 1 ≡ refusal f mode r
+  unfolding refusal
+  refuses-precision p-fails = simp (← p-tested, p-fails)
+
+  module _ (p-fits : not p ≡ false) (x : Bool) (x-tested : x ≡ exponentFits (f .emax)) where
+    pub refuses-exponent : not x ≡ true → 2 ≡ refusal f mode r
+    unfolding refusal
+    refuses-exponent x-fails = simp (← p-tested, p-fits, ← x-tested, x-fails)
+
+    module _ (x-fits : not x ≡ false) where
+      pub refuses-mode : 8 < mode → 3 ≡ refusal f mode r
+      unfolding refusal
+      refuses-mode past = simp (← p-tested, p-fits, ← x-tested, x-fits, lt-ltb 8 mode past)
+
+      module _ (known : mode ≤ 8) where
+        -- a mode other than 7 has no r to look at
+        pub accepts-mode : (mode ≡ 7 → ⊥) → 0 ≡ refusal f mode r
+        unfolding refusal
+        accepts-mode other = simp (← p-tested, p-fits, ← x-tested, x-fits, le-ltb 8 mode known, ne-eqb mode 7 other)
+
+        module _ (seven : mode ≡ 7) (b : Bool) (b-tested : b ≡ bitsFit r) where
+          pub accepts-bits : b ≡ true → 0 ≡ refusal f mode r
+          unfolding refusal
+          accepts-bits fits = simp (← p-tested, p-fits, ← x-tested, x-fits, le-ltb 8 mode known, eq-eqb mode 7 seven, ← b-tested, fits)
+
+          pub refuses-bits : b ≡ false → 4 ≡ refusal f mode r
+          unfolding refusal
+          refuses-bits fails = simp (← p-tested, p-fits, ← x-tested, x-fits, le-ltb 8 mode known, eq-eqb mode 7 seven, ← b-tested, fails)
+
+-- ---- a call that is not refused
+
+-- has a format in range
+pub accepted-in-range : (f : Format) (mode r n : ℕ) → n ≡ refusal f mode r → n ≡ 0 → inRange f ≡ true
+unfolding refusal inRange
+accepted-in-range f mode r n e none = go (precisionFits (f .p)) (exponentFits (f .emax)) (sym e ∙ none)
+  where
+    rest : ℕ
+    rest = cond (ltb 8 mode) 3 (cond (eqb mode 7 && not (bitsFit r)) 4 0)
+
+    go : (p x : Bool) → cond (not p) 1 (cond (not x) 2 rest) ≡ 0 → (p && x) ≡ true
+    go true true h = refl
+    go true false h = absurd (omega arith)
+    go false x h = absurd (omega arith)
+
+-- in mode 7 its r fits
+accepted-bits : (f : Format) (r : ℕ) → refusal f 7 r ≡ 0 → (1 ≤ r) × (r ≤ 53)
+unfolding refusal bitsFit
+accepted-bits f r none =
+    let fits : between 1 r 53 ≡ true = go (precisionFits (f .p)) (exponentFits (f .emax)) (between 1 r 53) none in
+    (between-least 1 r 53 fits, between-most 1 r 53 fits)
+  where
+    go : (p x b : Bool) → _≡_ {A = ℕ} (cond (not p) 1 (cond (not x) 2 (cond (not b) 4 0))) 0 → b ≡ true
+    go true true true h = refl
+    go true true false h = absurd (omega arith)
+    go true false b h = absurd (omega arith)
+    go false x b h = absurd (omega arith)
+
+-- so its mode is one of document 01's
+pub accepted-mode-fits : (f : Format) (mode r : ℕ) → refusal f mode r ≡ 0 → ModeFits (modeOf mode r)
+unfolding modeOf
+accepted-mode-fits f zero r none = tt
+accepted-mode-fits f (suc zero) r none = tt
+accepted-mode-fits f (suc (suc zero)) r none = tt
+accepted-mode-fits f (suc (suc (suc zero))) r none = tt
+accepted-mode-fits f (suc (suc (suc (suc zero)))) r none = tt
+accepted-mode-fits f (suc (suc (suc (suc (suc zero))))) r none = tt
+accepted-mode-fits f (suc (suc (suc (suc (suc (suc zero)))))) r none = tt
+accepted-mode-fits f (suc (suc (suc (suc (suc (suc (suc zero))))))) r none = accepted-bits f r none
+accepted-mode-fits f (suc (suc (suc (suc (suc (suc (suc (suc zero)))))))) r none = tt
+accepted-mode-fits f (suc (suc (suc (suc (suc (suc (suc (suc (suc n))))))))) r none = tt

@@ -1,0 +1,155 @@
+-- Rounding by settings, as the code comes to it: each definition of specs/Settled.antt in the form in which calls and
+-- branches leave its parts. Assumes nothing.
+use mathlib.Core.Bool.{Bool, true, false, cond}
+use mathlib.Core.Path.{_≡_, sym, ap, ap₂, _∙_}
+use Prim.Native.Nat.{ℕ, _+_, _-_, _*_, _/_, _%_, _^_, _≤_, _<_, min}
+use native.Mathlib.Nat.{mod-eq-of-lt, lt-of-le-of-lt, div-mul-le-self}
+use native.Mathlib.Omega.{arith}
+use mir.Val.{Fits}
+use mir.Syntax.{w64}
+use lib.Dec.{leb, ltb}
+use lib.Pow.{pow-pos, pow-mono, shr-le}
+use borrow.Author.Tests.{lt-ltb, le-ltb, le-leb, lt-leb}
+use Rattle.laws.proofs.Words.{one-shifted}
+use Rattle.grid.specs.declared.Kind.{Kind}
+use Rattle.grid.specs.declared.Kind.the-variants.{Zero, Finite, Infinity, NaN}
+use Rattle.grid.specs.Patterns.{sign, mag, withSign, infinity, kindOf, ex, sig, digitsOf}
+use Rattle.grid.specs.Places.{high}
+use Rattle.rounding.specs.declared.Settings.{Settings}
+use Rattle.rounding.specs.Modes.{overflows}
+use Rattle.rounding.specs.Increments.{increment}
+use Rattle.rounding.specs.Rounded.{answerTo}
+use Rattle.rounding.specs.Settled.{place, kept, trace, unkept, moved, settledTo, settled}
+use Rattle.rounding.proofs.Choices.{increment-below}
+
+-- ---- the place
+
+module _ (s : Settings) (m n : ℕ) (counted : n ≡ digitsOf m) where
+  pub place-normal : s .emin < n → s .cut ≡ place s m
+  unfolding place
+  place-normal h = sym (ap (λ (b : Bool). cond b (s .cut) (s .bottom - ex m)) (ap (ltb (s .emin)) (sym counted) ∙ lt-ltb (s .emin) n h))
+
+  module _ (small : n ≤ s .emin) where
+    place-small : s .bottom - ex m ≡ place s m
+    unfolding place
+    place-small = sym (ap (λ (b : Bool). cond b (s .cut) (s .bottom - ex m)) (ap (ltb (s .emin)) (sym counted) ∙ le-ltb (s .emin) n small))
+
+    module _ (e : ℕ) (shift : e ≡ ex m) where
+      pub place-under : s .bottom - e ≡ place s m
+      place-under = ap (λ (k : ℕ). s .bottom - k) shift ∙ place-small
+
+      pub place-bottom : s .bottom ≤ e → 0 ≡ place s m
+      place-bottom h = omega (arith, place-under)
+
+-- ---- where a digit is kept
+
+module _ (s : Settings) (negative : Bool) (word m d i n : ℕ) (below : m < 2 ^ 63) (few : d < 53) where
+  module _ (e : i ≡ increment (s .mode) negative (n / 2 ^ d) (2 ^ d) word) where
+    sum-below : m + i < 2 ^ 64
+    sum-below =
+        let small = increment-below (s .mode) negative (n / 2 ^ d) (2 ^ d) word (pow-pos d) in
+        let most : 2 ^ d ≤ 2 ^ 53 = pow-mono {i = d} {j = 53} (omega arith) in
+        omega arith
+
+    -- the sum fits a word
+    pub kept-fits : Fits w64 (m + i)
+    kept-fits = record { fits = sum-below }
+
+    pub kept-is : n ≡ sig m → (m + i) / 2 ^ d * 2 ^ d % 2 ^ 64 ≡ kept s negative word m d
+    unfolding kept high
+    kept-is whole =
+        mod-eq-of-lt (lt-of-le-of-lt (div-mul-le-self (m + i) (2 ^ d)) sum-below)
+        ∙ ap (λ (x : ℕ). (m + x) / 2 ^ d * 2 ^ d) (e ∙ ap (λ (x : ℕ). increment (s .mode) negative (x / 2 ^ d) (2 ^ d) word) whole)
+
+-- ---- where none is kept
+
+module _ (n k h : ℕ) (cut : h ≡ high n k) where
+  pub trace-of-nothing : h ≡ 0 → 1 ≡ trace n k
+  unfolding trace
+  trace-of-nothing z = omega arith
+
+  pub trace-of-something : (h ≡ 0 → ⊥) → h ≡ trace n k
+  unfolding trace
+  trace-of-something z = omega arith
+
+module _ (s : Settings) (negative : Bool) (word m d c t i n : ℕ) (near : c ≡ min d 63) (whole : n ≡ sig m) (rest : t ≡ trace n (d - c))
+    (e : i ≡ increment (s .mode) negative 0 (2 ^ c) word) where
+  -- the sum fits a word
+  pub unkept-fits : Fits w64 (t + i)
+  unfolding trace high
+  unkept-fits =
+      let small = increment-below (s .mode) negative 0 (2 ^ c) word (pow-pos c) in
+      let most : 2 ^ c ≤ 2 ^ 63 = pow-mono {i = c} {j = 63} (omega arith) in
+      let less : n / 2 ^ (d - c) ≤ n = shr-le n (d - c) in
+      record { fits = omega arith }
+
+  reaches : leb (1 * 2 ^ c % 2 ^ 64) (t + i) ≡ leb (2 ^ min d 63) (trace (sig m) (d - min d 63) + increment (s .mode) negative 0 (2 ^ min d 63) word)
+  reaches =
+      let placed : 2 ^ c ≡ 2 ^ min d 63 = ap (λ (k : ℕ). 2 ^ k) near in
+      let held = ap₂ (λ (x k : ℕ). trace x (d - k)) whole near in
+      let added = ap (λ (k : ℕ). increment (s .mode) negative 0 (2 ^ k) word) near in
+      ap₂ leb (one-shifted 64 c (omega arith) ∙ placed) (ap₂ (λ (x y : ℕ). x + y) (rest ∙ held) (e ∙ added))
+
+  pub unkept-reached : 1 * 2 ^ c % 2 ^ 64 ≤ t + i → s .zeta ≡ unkept s negative word m d
+  unfolding unkept
+  unkept-reached h = sym (ap (λ (b : Bool). cond b (s .zeta) 0) (sym reaches ∙ le-leb (1 * 2 ^ c % 2 ^ 64) (t + i) h))
+
+  pub unkept-missed : t + i < 1 * 2 ^ c % 2 ^ 64 → 0 ≡ unkept s negative word m d
+  unfolding unkept
+  unkept-missed h = sym (ap (λ (b : Bool). cond b (s .zeta) 0) (sym reaches ∙ lt-leb (1 * 2 ^ c % 2 ^ 64) (t + i) h))
+
+-- ---- below T, by the place
+
+module _ (s : Settings) (negative : Bool) (word m d y : ℕ) (at : d ≡ place s m) where
+  pub moved-kept : d < 53 → y ≡ kept s negative word m d → y ≡ moved s negative word m
+  unfolding moved
+  moved-kept h e = simp (← at, lt-ltb d 53 h, e)
+
+  pub moved-unkept : 53 ≤ d → y ≡ unkept s negative word m d → y ≡ moved s negative word m
+  unfolding moved
+  moved-unkept h e = simp (← at, le-ltb d 53 h, e)
+
+-- ---- the magnitude
+
+module _ (s : Settings) (negative : Bool) (word m : ℕ) where
+  module _ (below : m < s .top) (y : ℕ) (e : y ≡ moved s negative word m) where
+    pub settled-below : y < s .top → y ≡ settledTo s negative word m
+    unfolding settledTo
+    settled-below h = simp (lt-ltb m (s .top) below, ← e, lt-ltb y (s .top) h)
+
+    pub settled-at-top : s .top ≤ y → infinity ≡ settledTo s negative word m
+    unfolding settledTo
+    settled-at-top h = simp (lt-ltb m (s .top) below, ← e, le-ltb y (s .top) h)
+
+  module _ (past : s .top ≤ m) (b : Bool) (e : b ≡ overflows (s .mode) negative) where
+    pub settled-to-infinity : b ≡ true → infinity ≡ settledTo s negative word m
+    unfolding settledTo
+    settled-to-infinity h = simp (le-ltb m (s .top) past, ← e, h)
+
+    pub settled-to-xmax : b ≡ false → s .xmax ≡ settledTo s negative word m
+    unfolding settledTo
+    settled-to-xmax h = simp (le-ltb m (s .top) past, ← e, h)
+
+-- ---- the pattern, by what it is
+
+module _ (s : Settings) (word x : ℕ) (k : Kind) (e : k ≡ kindOf x) where
+  pub zero-settled : k ≡ Zero → x ≡ settled s word x
+  unfolding settled answerTo
+  zero-settled is = simp (← e, is)
+
+  pub infinity-settled : k ≡ Infinity → x ≡ settled s word x
+  unfolding settled answerTo
+  infinity-settled is = simp (← e, is)
+
+  pub nan-settled : k ≡ NaN → x ≡ settled s word x
+  unfolding settled answerTo
+  nan-settled is = simp (← e, is)
+
+  pub finite-settled : k ≡ Finite → (b : Bool) → b ≡ sign x → (m : ℕ) → m ≡ mag x → (y : ℕ) → y ≡ settledTo s b word m → (z : ℕ) → z ≡ withSign x y → z ≡ settled s word x
+  unfolding settled answerTo
+  finite-settled is b signed m same y goes z put = simp (← e, is, put, goes, signed, same)
+
+-- a magnitude leaves the sign bit free
+pub magnitude-below : (x m : ℕ) → m ≡ mag x → m < 2 ^ 63
+unfolding mag
+magnitude-below x m e = omega arith

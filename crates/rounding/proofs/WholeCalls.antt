@@ -1,0 +1,70 @@
+-- The calls: what is prepared, and the answer to one pattern, in the forms in which the code comes to them. Assumes nothing.
+use mathlib.Core.Bool.{Bool, true, false, cond, false≢true}
+use mathlib.Core.Path.{_≡_, refl, sym, ap, _∙_}
+use Prim.Native.Nat.{ℕ}
+use lib.Dec.{eqb}
+use borrow.Author.Tests.{eq-eqb, ne-eqb, eqb-true}
+use Rattle.grid.specs.declared.Format.{Format}
+use Rattle.grid.proofs.Ranges.{in-range-bounds}
+use Rattle.rounding.specs.declared.Mode.{Mode}
+use Rattle.rounding.specs.declared.Settings.{Settings}
+use Rattle.rounding.specs.declared.Prepared.{Prepared}
+use Rattle.rounding.specs.declared.Prepared.the-variants.{Ready, Refused}
+use Rattle.rounding.specs.Modes.{modeOf}
+use Rattle.rounding.specs.Rounded.{rounded}
+use Rattle.rounding.specs.Settled.{settings, settled}
+use Rattle.rounding.specs.Calls.{refusal, prepared, answered, refused, roundOne}
+use Rattle.rounding.proofs.Refusals.{accepted-in-range, accepted-mode-fits}
+use Rattle.rounding.proofs.Agreement.{settled-is-rounded}
+
+-- ---- what is prepared
+
+module _ (f : Format) (mode r n : ℕ) (e : n ≡ refusal f mode r) where
+  pub prepared-ready : n ≡ 0 → (m : Mode) → m ≡ modeOf mode r → (s : Settings) → s ≡ settings f m → Ready s ≡ prepared f mode r
+  unfolding prepared
+  prepared-ready none m named s made = simp (← e, eq-eqb n 0 none, made, named)
+
+  pub prepared-refused : (n ≡ 0 → ⊥) → Refused n ≡ prepared f mode r
+  unfolding prepared
+  prepared-refused some = simp (← e, ne-eqb n 0 some)
+
+-- ---- the answer to one pattern
+
+-- what stands in either answer
+abbrev isReady : Prepared → Bool
+isReady (Ready s) = true
+isReady (Refused n) = false
+
+abbrev settingsIn : Settings → Prepared → Settings
+settingsIn other (Ready s) = s
+settingsIn other (Refused n) = other
+
+abbrev numberIn : Prepared → ℕ
+numberIn (Ready s) = 0
+numberIn (Refused n) = n
+
+module _ (f : Format) (mode r word x : ℕ) (p : Prepared) (e : p ≡ prepared f mode r) where
+  -- what a call that is not refused answers: the rounded pattern
+  accepted-pattern : refusal f mode r ≡ 0 → settled (settings f (modeOf mode r)) word x ≡ rounded f (modeOf mode r) word x
+  accepted-pattern none =
+      settled-is-rounded f (in-range-bounds f (accepted-in-range f mode r 0 (sym none) refl)) (modeOf mode r) (accepted-mode-fits f mode r none) word x
+
+  pub answer-ready : (s : Settings) → p ≡ Ready s → (y : ℕ) → y ≡ settled s word x → answered y ≡ roundOne f mode r word x
+  unfolding prepared roundOne
+  answer-ready s is y goes = go (eqb (refusal f mode r) 0) refl (sym e ∙ is)
+    where
+      go : (b : Bool) → eqb (refusal f mode r) 0 ≡ b → cond b (Ready (settings f (modeOf mode r))) (Refused (refusal f mode r)) ≡ Ready s
+          → answered y ≡ cond b (answered (rounded f (modeOf mode r) word x)) (refused (refusal f mode r))
+      go true passed same =
+          ap answered
+          (goes ∙ ap (λ (t : Settings). settled t word x) (sym (ap (settingsIn s) same)) ∙ accepted-pattern (eqb-true (refusal f mode r) 0 passed))
+      go false failed same = absurd (false≢true (ap isReady same))
+
+  pub answer-refused : (n : ℕ) → p ≡ Refused n → refused n ≡ roundOne f mode r word x
+  unfolding prepared roundOne
+  answer-refused n is = go (eqb (refusal f mode r) 0) (sym e ∙ is)
+    where
+      go : (b : Bool) → cond b (Ready (settings f (modeOf mode r))) (Refused (refusal f mode r)) ≡ Refused n
+          → refused n ≡ cond b (answered (rounded f (modeOf mode r) word x)) (refused (refusal f mode r))
+      go true same = absurd (false≢true (sym (ap isReady same)))
+      go false same = ap refused (sym (ap numberIn same))

@@ -1,0 +1,34 @@
+-- `rounding::magnitudes::round_magnitude` meets its contract. Assumes nothing.
+use borrow.Author.Needs.{needs}
+use Rattle.rounding.proofs.Settling.{settled-below, settled-at-top, settled-to-infinity, settled-to-xmax}
+use Rattle.rounding.proofs.magnitudes.round_magnitude.Statement.{statement}
+use Rattle.rounding.proofs.magnitudes.round_magnitude.Tie as tie
+
+round-below-top-requires : tie.Need-round-below-top-requires
+round-below-top-requires c κs = search needs
+
+returns : tie.Need-returns
+returns c = search settled-below
+
+returns-2 : tie.Need-returns-2
+returns-2 c = search settled-at-top
+
+overflows-to-infinity-requires : tie.Need-overflows-to-infinity-requires
+overflows-to-infinity-requires c κs = search needs
+
+returns-3 : tie.Need-returns-3
+returns-3 c = search settled-to-infinity
+
+returns-4 : tie.Need-returns-4
+returns-4 c = search settled-to-xmax
+
+pub round-magnitude-spec : {M : Type 1} → statement M
+round-magnitude-spec =
+    tie.close
+    (tie.spec
+    round-below-top-requires
+    returns
+    returns-2
+    overflows-to-infinity-requires
+    returns-3
+    returns-4)

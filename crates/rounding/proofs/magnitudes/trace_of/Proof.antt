@@ -1,0 +1,17 @@
+-- `rounding::magnitudes::trace_of` meets its contract. Assumes nothing.
+use borrow.Author.Needs.{needs}
+use Rattle.rounding.proofs.Settling.{trace-of-nothing, trace-of-something}
+use Rattle.rounding.proofs.magnitudes.trace_of.Statement.{statement}
+use Rattle.rounding.proofs.magnitudes.trace_of.Tie as tie
+
+high-part-requires : tie.Need-high-part-requires
+high-part-requires c κs = search needs
+
+returns : tie.Need-returns
+returns c = search trace-of-nothing
+
+returns-2 : tie.Need-returns-2
+returns-2 c = search trace-of-something
+
+pub trace-of-spec : {M : Type 1} → statement M
+trace-of-spec = tie.close (tie.spec high-part-requires returns returns-2)

@@ -1,0 +1,80 @@
+-- The nine modes and their two tables, a line a mode (document 01, "Rounding one pattern"). Assumes nothing.
+use mathlib.Core.Bool.{Bool, true, false, not, _&&_, _||_}
+use mathlib.Core.List.{List, [], _∷_}
+use Prim.Native.Nat.{ℕ, _+_, _*_, _/_, _%_, _^_, _≤_}
+use lib.Dec.{leb, ltb, eqb}
+use lib.ListN.{getD}
+use Rattle.rounding.specs.declared.Mode.{Mode}
+use Rattle.rounding.specs.declared.Mode.the-variants.{TiesToEven, TiesToZero, TiesAway, TowardZero, TowardPlus, TowardMinus, ToOdd, Stochastic, EvenChance}
+
+-- the modes by number, 0 to 8; stochastic rounding holds its count r of random bits
+abbrev pub modes : ℕ → List Mode
+modes r = TiesToEven ∷ TiesToZero ∷ TiesAway ∷ TowardZero ∷ TowardPlus ∷ TowardMinus ∷ ToOdd ∷ Stochastic r ∷ EvenChance ∷ []
+
+-- the mode with a number; numbers above 8 are refused before it is asked for
+unfoldable pub modeOf : ℕ → ℕ → Mode
+modeOf number r = getD (modes r) number EvenChance
+
+abbrev pub even : ℕ → Bool
+even n = eqb (n % 2) 0
+
+abbrev pub odd : ℕ → Bool
+odd n = eqb (n % 2) 1
+
+-- K: how many whole shares of G / 2^r the rest holds
+unfoldable pub K : ℕ → ℕ → ℕ → ℕ
+K r rest G = 2 ^ r * rest / G
+
+-- u: the random number, which is the last r bits of the word
+unfoldable pub u : ℕ → ℕ → ℕ
+u r word = word % 2 ^ r
+
+-- Whether hi is taken, for a magnitude that lies between lo and hi, by its sign (whether it is negative), lo's m, the rest
+-- a - lo, the step G = hi - lo, and the word. hi is nearer where twice the rest is above G, and a tie is where it is G. hi's m
+-- is one more than lo's, so one of the two is even and the other odd.
+unfoldable pub takesHi : Mode → Bool → ℕ → ℕ → ℕ → ℕ → Bool
+takesHi TiesToEven negative m rest G word = ltb G (2 * rest) || eqb G (2 * rest) && odd m
+takesHi TiesToZero negative m rest G word = ltb G (2 * rest)
+takesHi TiesAway negative m rest G word = leb G (2 * rest)
+takesHi TowardZero negative m rest G word = false
+takesHi TowardPlus negative m rest G word = not negative
+takesHi TowardMinus negative m rest G word = negative
+takesHi ToOdd negative m rest G word = even m
+takesHi (Stochastic r) negative m rest G word = leb (2 ^ r) (K r rest G + u r word)
+takesHi EvenChance negative m rest G word = odd word
+
+-- from T on: whether infinity is the answer; where not, xmax is
+unfoldable pub overflows : Mode → Bool → Bool
+overflows TiesToEven negative = true
+overflows TiesToZero negative = true
+overflows TiesAway negative = true
+overflows TowardZero negative = false
+overflows TowardPlus negative = not negative
+overflows TowardMinus negative = negative
+overflows ToOdd negative = false
+overflows (Stochastic r) negative = true
+overflows EvenChance negative = true
+
+-- where stochastic rounding is document 01's: r runs from 1 to 53; the other modes have no r
+abbrev pub ModeFits : Mode → Type 0
+ModeFits TiesToEven = Unit {0}
+ModeFits TiesToZero = Unit {0}
+ModeFits TiesAway = Unit {0}
+ModeFits TowardZero = Unit {0}
+ModeFits TowardPlus = Unit {0}
+ModeFits TowardMinus = Unit {0}
+ModeFits ToOdd = Unit {0}
+ModeFits (Stochastic r) = (1 ≤ r) × (r ≤ 53)
+ModeFits EvenChance = Unit {0}
+
+-- the part of the word that a mode looks at
+unfoldable pub wordRead : Mode → ℕ → ℕ
+wordRead TiesToEven word = 0
+wordRead TiesToZero word = 0
+wordRead TiesAway word = 0
+wordRead TowardZero word = 0
+wordRead TowardPlus word = 0
+wordRead TowardMinus word = 0
+wordRead ToOdd word = 0
+wordRead (Stochastic r) word = u r word
+wordRead EvenChance word = word % 2

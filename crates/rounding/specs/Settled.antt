@@ -1,0 +1,64 @@
+-- The answer's pattern as it is computed, from settings that are worked out once for a format and a mode. That it is the
+-- rounded pattern is the law `settled-is-rounded`. For settings of any other numbers it is only what the code does.
+-- Assumes nothing.
+use mathlib.Core.Bool.{Bool, cond}
+use Prim.Native.Nat.{ℕ, _+_, _-_, _*_, _^_, min, max}
+use lib.Dec.{leb, ltb}
+use Rattle.grid.specs.declared.Format.{Format}
+use Rattle.grid.specs.Patterns.{sign, mag, infinity, kindOf, ex, sig, digitsOf, pat}
+use Rattle.grid.specs.Places.{high}
+use Rattle.grid.specs.Formats.{emin, zetaExp, zeta, xmax, T}
+use Rattle.rounding.specs.declared.Mode.{Mode}
+use Rattle.rounding.specs.declared.Settings.{Settings}
+use Rattle.rounding.specs.Modes.{overflows}
+use Rattle.rounding.specs.Increments.{increment}
+use Rattle.rounding.specs.Rounded.{answerTo}
+
+-- what is worked out once
+unfoldable pub settings : Format → Mode → Settings
+settings f mode =
+    record {
+      mode = mode;
+      cut = 53 - f .p;
+      emin = emin f;
+      bottom = zetaExp f;
+      zeta = pat (zeta f);
+      xmax = pat (xmax f);
+      top = pat (T f);
+    }
+
+-- the place of the significand's last kept digit: in the normal range p digits are kept, and below it the step is zeta
+unfoldable pub place : Settings → ℕ → ℕ
+place s m = cond (ltb (s .emin) (digitsOf m)) (s .cut) (s .bottom - ex m)
+
+-- Where a digit is kept, the increment is added to the pattern itself and what stands below the place is cleared; a carry
+-- out of the fraction raises the exponent by one, which is right.
+unfoldable pub kept : Settings → Bool → ℕ → ℕ → ℕ → ℕ
+kept s negative word m d = high (m + increment (s .mode) negative (high (sig m) d) (2 ^ d) word) d * 2 ^ d
+
+-- a number moved k places down, of which at least a trace stays
+unfoldable pub trace : ℕ → ℕ → ℕ
+trace n k = max 1 (high n k)
+
+-- Where none is kept lo is 0 and hi is zeta, which is taken where the rest and the increment reach the place. A place past a
+-- word's last is brought down to it, and the rest with it.
+unfoldable pub unkept : Settings → Bool → ℕ → ℕ → ℕ → ℕ
+unkept s negative word m d =
+    let c = min d 63 in
+    cond (leb (2 ^ c) (trace (sig m) (d - c) + increment (s .mode) negative 0 (2 ^ c) word)) (s .zeta) 0
+
+-- below T, by the place
+unfoldable pub moved : Settings → Bool → ℕ → ℕ → ℕ
+moved s negative word m =
+    let d = place s m in
+    cond (ltb d 53) (kept s negative word m d) (unkept s negative word m d)
+
+-- the magnitude pattern that m goes to: T is written as infinity, and from T on the overflow column alone counts
+unfoldable pub settledTo : Settings → Bool → ℕ → ℕ → ℕ
+settledTo s negative word m =
+    let y = moved s negative word m in
+    cond (ltb m (s .top)) (cond (ltb y (s .top)) y infinity) (cond (overflows (s .mode) negative) infinity (s .xmax))
+
+-- the answer's pattern, for every 64-bit input
+unfoldable pub settled : Settings → ℕ → ℕ → ℕ
+settled s word x = answerTo (kindOf x) x (settledTo s (sign x) word (mag x))

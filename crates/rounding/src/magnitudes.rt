@@ -1,0 +1,109 @@
+// Rounding a magnitude by settings. `m` is a magnitude pattern, `d` the place of its significand's
+// last kept digit.
+ghost use mathlib.Core.Path.{_≡_};
+ghost use Prim.Native.Nat.{_^_, _<_, min};
+ghost use Rattle.rounding.specs.Settled.{place, kept, trace, unkept, moved, settledTo};
+use super::Settings;
+use super::modes::increment_of;
+use super::modes::overflows_to_infinity;
+use grid::digits_of;
+use grid::exponent_of;
+use grid::high_part;
+use grid::significand_of;
+
+// The magnitude pattern of infinity.
+const INFINITY: u64 = 0x7FF0_0000_0000_0000;
+
+// The place of the last kept digit, by where the magnitude's first digit stands: p digits are kept in
+// the normal range, and below it the step is zeta, so that each missing digit costs a place.
+pub(crate) fn place_of(s: Settings, m: u64) -> u64
+    ensures { λ y. ⌜ y ≡ place s m ⌝ }
+{
+    if s.emin < digits_of(m) {
+        return s.cut;
+    }
+    let e = exponent_of(m);
+    if e < s.bottom {
+        return s.bottom - e;
+    }
+    0
+}
+
+// Where a digit is kept: the increment is added to the pattern, and the digits below the place are
+// cleared. A carry out of the fraction raises the exponent by one, which is right.
+fn round_kept(s: Settings, negative: bool, word: u64, m: u64, d: u64) -> u64
+    requires { ⌜ m < 2 ^ 63 ⌝ }
+    requires { ⌜ d < 53 ⌝ }
+    ensures { λ y. ⌜ y ≡ kept s negative word m d ⌝ }
+{
+    let mode = s.mode;
+    let last = significand_of(m) >> d;
+    let sum = m + increment_of(mode, negative, last, d, word);
+    (sum >> d) << d
+}
+
+// n moved k places down; at least 1, so that what is far below zeta is still told from zero.
+fn trace_of(n: u64, k: u64) -> u64
+    ensures { λ y. ⌜ y ≡ trace n k ⌝ }
+{
+    let h = high_part(n, k);
+    if h == 0 {
+        return 1;
+    }
+    h
+}
+
+// The place, or the word's last one where it is past it.
+fn place_in_word(d: u64) -> u64
+    ensures { λ y. ⌜ y ≡ min d 63 ⌝ }
+{
+    if d < 63 {
+        return d;
+    }
+    63
+}
+
+// Where no digit is kept: zeta or nothing.
+fn round_unkept(s: Settings, negative: bool, word: u64, m: u64, d: u64) -> u64
+    ensures { λ y. ⌜ y ≡ unkept s negative word m d ⌝ }
+{
+    let mode = s.mode;
+    let c = place_in_word(d);
+    let rest = trace_of(significand_of(m), d - c);
+    if 1 << c <= rest + increment_of(mode, negative, 0, c, word) {
+        return s.zeta;
+    }
+    0
+}
+
+// The magnitude pattern that m goes to, which is below T: T itself may come out.
+fn round_below_top(s: Settings, negative: bool, word: u64, m: u64) -> u64
+    requires { ⌜ m < 2 ^ 63 ⌝ }
+    ensures { λ y. ⌜ y ≡ moved s negative word m ⌝ }
+{
+    let d = place_of(s, m);
+    if d < 53 {
+        return round_kept(s, negative, word, m, d);
+    }
+    round_unkept(s, negative, word, m, d)
+}
+
+// The magnitude pattern that m goes to. T is written as infinity, and from T on the overflow column
+// alone counts.
+pub(crate) fn round_magnitude(s: Settings, negative: bool, word: u64, m: u64) -> u64
+    requires { ⌜ m < 2 ^ 63 ⌝ }
+    ensures { λ y. ⌜ y ≡ settledTo s negative word m ⌝ }
+{
+    if m < s.top {
+        let y = round_below_top(s, negative, word, m);
+        if y < s.top {
+            return y;
+        }
+        return INFINITY;
+    }
+    let mode = s.mode;
+    if overflows_to_infinity(mode, negative) {
+        return INFINITY;
+    }
+    s.xmax
+}
