@@ -26,10 +26,11 @@ use Rattle.grid.proofs.PatternKinds.{finite-positive}
 use Rattle.grid.proofs.Candidates.{top-short}
 use Rattle.grid.proofs.Steps.{step-normal, step-small, emin-normal, zeta-near}
 use Rattle.rounding.specs.declared.Mode.{Mode}
-use Rattle.rounding.specs.Modes.{takesHi, overflows, ModeFits}
+use Rattle.rounding.specs.Modes.{takesHi, overflows}
+use Rattle.rounding.specs.Facts.{ModeFits}
 use Rattle.rounding.specs.Rounded.{taken, written, goesTo, rounded, answerTo}
 use Rattle.rounding.specs.Increments.{increment}
-use Rattle.rounding.specs.Settled.{settings, place, kept, trace, unkept, moved, settledTo, settled}
+use Rattle.rounding.specs.BySettings.{settings, place, kept, trace, unkept, moved, goesToBy, roundedBy}
 use Rattle.rounding.proofs.Choices.{increment-below, choice-by-increment, choice-scales, choice-far, trace-small}
 
 module _ (f : Format) (r : InRange f) (mode : Mode) where
@@ -255,9 +256,9 @@ module _ (f : Format) (r : InRange f) (mode : Mode) (fits : ModeFits mode) (nega
 
   -- ---- so the patterns are the same
 
-  pub settled-goes-to : settledTo (settings f mode) negative word m ≡ goesTo f mode negative word (val m)
-  unfolding settledTo settings goesTo written
-  settled-goes-to =
+  pub goes-to-by-settings : goesToBy (settings f mode) negative word m ≡ goesTo f mode negative word (val m)
+  unfolding goesToBy settings goesTo written
+  goes-to-by-settings =
       let y = moved (settings f mode) negative word m in
       let over = cond (overflows mode negative) infinity (pat (xmax f)) in
       let worth : val y ≡ taken f mode negative word (val m) = moved-value in
@@ -268,12 +269,12 @@ module _ (f : Format) (r : InRange f) (mode : Mode) (fits : ModeFits mode) (nega
       (sym (pat-val y) ∙ ap pat worth))
 
 -- Rounding by the settings of a format and a mode is what document 01 says, for every pattern and every word.
-pub settled-is-rounded : (f : Format) → InRange f → (mode : Mode) → ModeFits mode → (word x : ℕ) → settled (settings f mode) word x ≡ rounded f mode word x
-unfolding settled rounded answerTo
-settled-is-rounded f r mode fits word x = go (kindOf x) refl
+pub rounded-by-settings : (f : Format) → InRange f → (mode : Mode) → ModeFits mode → (word x : ℕ) → roundedBy (settings f mode) word x ≡ rounded f mode word x
+unfolding roundedBy rounded answerTo
+rounded-by-settings f r mode fits word x = go (kindOf x) refl
   where
-    go : (k : Kind) → kindOf x ≡ k → answerTo k x (settledTo (settings f mode) (sign x) word (mag x)) ≡ answerTo k x (goesTo f mode (sign x) word (val (mag x)))
+    go : (k : Kind) → kindOf x ≡ k → answerTo k x (goesToBy (settings f mode) (sign x) word (mag x)) ≡ answerTo k x (goesTo f mode (sign x) word (val (mag x)))
     go Zero e = refl
-    go Finite e = ap (withSign x) (settled-goes-to f r mode fits (sign x) word (mag x) (finite-positive x e))
+    go Finite e = ap (withSign x) (goes-to-by-settings f r mode fits (sign x) word (mag x) (finite-positive x e))
     go Infinity e = refl
     go NaN e = refl

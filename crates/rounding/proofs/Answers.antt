@@ -3,13 +3,13 @@
 use mathlib.Core.Bool.{Bool, true, false, cond}
 use mathlib.Core.Path.{_≡_, refl, sym, ap, _∙_, subst}
 use mathlib.Core.Logic.{_⊎_, inl, inr}
-use Prim.Native.Nat.{ℕ, _+_, _-_, _/_, _^_, _<_}
-use native.Mathlib.Nat.{sub-self, mod-eq-of-lt, lt-of-le-of-lt, eq-or-lt-of-le}
+use Prim.Native.Nat.{ℕ, _+_, _-_, _/_, _^_, _≤_, _<_}
+use native.Mathlib.Nat.{sub-self, mod-eq-of-lt, lt-irrefl, lt-of-le-of-lt, eq-or-lt-of-le}
 use lib.Dec.{leb, lit<}
 use Rattle.grid.specs.declared.Format.{Format}
 use Rattle.grid.specs.declared.Kind.{Kind}
 use Rattle.grid.specs.declared.Kind.the-variants.{Zero, Finite, Infinity, NaN}
-use Rattle.grid.specs.Patterns.{sign, mag, withSign, kindOf, val}
+use Rattle.grid.specs.Patterns.{sign, mag, withSign, infinity, kindOf, val}
 use Rattle.grid.specs.Formats.{InRange, step, T}
 use Rattle.grid.specs.Candidates.{Candidate}
 use Rattle.grid.specs.Neighbours.{lo, hi}
@@ -17,13 +17,18 @@ use Rattle.grid.proofs.Values.{pat-val}
 use Rattle.grid.proofs.PatternKinds.{finite-or-not}
 use Rattle.grid.proofs.Signs.{with-own-sign, magnitude-with-sign, sign-with-sign, with-sign-fits}
 use Rattle.grid.proofs.Candidates.{candidate-whole}
-use Rattle.grid.proofs.Neighbours.{lo-not-above}
+use Rattle.grid.proofs.Neighbours.{lo-not-above, lo-candidate, hi-candidate}
 use Rattle.rounding.specs.declared.Mode.{Mode}
 use Rattle.rounding.specs.declared.Mode.the-variants.{Stochastic}
 use Rattle.rounding.specs.Modes.{K, u, takesHi}
 use Rattle.rounding.specs.Rounded.{taken, written, goesTo, answerTo, rounded}
 use Rattle.rounding.proofs.Choices.{stochastic-exact}
-use Rattle.rounding.proofs.Destinations.{below-written, exact-taken, choice-taken, below-goes, goes-to-candidate, goes-most}
+use Rattle.rounding.proofs.Destinations.{below-written, exact-taken, choice-taken, below-goes, written-most, written-apart, goes-to-candidate, goes-most}
+
+-- a pattern not above infinity's has no sign
+magnitude-is : (m : ℕ) → m ≤ infinity → mag m ≡ m
+unfolding mag
+magnitude-is m most = mod-eq-of-lt (lt-of-le-of-lt most (lit< tt))
 
 module _ (f : Format) (mode : Mode) (word x : ℕ) where
   -- ---- by what the pattern is
@@ -81,10 +86,9 @@ module _ (f : Format) (mode : Mode) (word x : ℕ) where
 
     -- a finite number's answer has the magnitude that its own goes to
     pub magnitude-answered : kindOf x ≡ Finite → mag (rounded f mode word x) ≡ goesTo f mode (sign x) word (val (mag x))
-    unfolding mag
     magnitude-answered finite =
         let m = goesTo f mode (sign x) word (val (mag x)) in
-        ap mag (finite-answer finite) ∙ magnitude-with-sign x m ∙ mod-eq-of-lt (lt-of-le-of-lt (goes-most f r mode (sign x) word (val (mag x))) (lit< tt))
+        ap mag (finite-answer finite) ∙ magnitude-with-sign x m ∙ magnitude-is m (goes-most f r mode (sign x) word (val (mag x)))
 
     -- it is a candidate of the format, with the input's sign
     pub answer-is-candidate : kindOf x ≡ Finite → (c : ℕ) × Candidate f c × (rounded f mode word x ≡ withSign x (written f c))
@@ -127,6 +131,22 @@ module _ (f : Format) (word x : ℕ) (finite : kindOf x ≡ Finite) (a : ℕ) (i
     pub answer-is-hi : takesHi mode (sign x) (a / step f a) (a - lo f a) (step f a) word ≡ true
         → rounded f mode word x ≡ withSign x (written f (hi f a))
     answer-is-hi choice = answer-is mode (hi f a) (choice-taken f mode (sign x) word a inexact true choice)
+
+    -- and lo only where the table says so: the two have different patterns
+    pub answer-is-lo-only : InRange f → rounded f mode word x ≡ withSign x (written f (lo f a))
+        → takesHi mode (sign x) (a / step f a) (a - lo f a) (step f a) word ≡ false
+    answer-is-lo-only r low = go (takesHi mode (sign x) (a / step f a) (a - lo f a) (step f a) word) refl
+      where
+        read : (c : ℕ) → Candidate f c → mag (withSign x (written f c)) ≡ written f c
+        read c among = magnitude-with-sign x (written f c) ∙ magnitude-is (written f c) (written-most f r c among)
+
+        go : (b : Bool) → takesHi mode (sign x) (a / step f a) (a - lo f a) (step f a) word ≡ b
+            → takesHi mode (sign x) (a / step f a) (a - lo f a) (step f a) word ≡ false
+        go false choice = choice
+        go true choice =
+            let same : written f (lo f a) ≡ written f (hi f a) =
+            sym (read (lo f a) (lo-candidate f r a below)) ∙ ap mag (sym low ∙ answer-is-hi choice) ∙ read (hi f a) (hi-candidate f r a below) in
+            absurd (lt-irrefl (written f (lo f a)) (subst (λ (y : ℕ). written f (lo f a) < y) (sym same) (written-apart f r a below)))
 
   -- stochastic rounding is document 01's test of K + u, with no exception for exact inputs
   pub stochastic-answer : (r : ℕ) → rounded f (Stochastic r) word x

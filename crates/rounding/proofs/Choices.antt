@@ -14,9 +14,10 @@ use Rattle.laws.proofs.Scales.{scale-div, leb-scales, ltb-scales, eqb-scales}
 use Rattle.grid.specs.Places.{high}
 use Rattle.rounding.specs.declared.Mode.{Mode}
 use Rattle.rounding.specs.declared.Mode.the-variants.{TiesToEven, TiesToZero, TiesAway, TowardZero, TowardPlus, TowardMinus, ToOdd, Stochastic, EvenChance}
-use Rattle.rounding.specs.Modes.{even, odd, K, u, takesHi, wordRead, ModeFits}
+use Rattle.rounding.specs.Modes.{even, odd, K, u, takesHi}
+use Rattle.rounding.specs.Facts.{Alike, ModeFits}
 use Rattle.rounding.specs.Increments.{increment}
-use Rattle.rounding.specs.Settled.{trace}
+use Rattle.rounding.specs.BySettings.{trace}
 
 -- ---- the choice by increment
 
@@ -223,7 +224,7 @@ choice-far TowardPlus negative n d word fits small far = refl
 choice-far TowardMinus negative n d word fits small far = refl
 choice-far ToOdd negative n d word fits small far = refl
 choice-far (Stochastic r) negative n d word fits small far =
-    let below : r ≤ 53 = fits .1 in
+    let below : r ≤ 53 = fits r refl .1 in
     let place : d - r ≡ d - 63 + (63 - r) = omega arith in
     ap (λ (k : ℕ). leb (2 ^ r) (k + u r word))
     (shares-high r n d (omega arith) ∙ ap (λ (k : ℕ). n / 2 ^ k) place
@@ -232,11 +233,11 @@ choice-far EvenChance negative n d word fits small far = refl
 
 -- ---- the choice and the word
 
--- a mode chooses the same by two words of which it looks at the same part
+-- a mode chooses the same by two words that are alike to it
 pub choice-reads :
-    (mode : Mode) (negative : Bool) (m rest step v w : ℕ) → wordRead mode v ≡ wordRead mode w
+    (mode : Mode) (negative : Bool) (m rest step v w : ℕ) → Alike mode v w
     → takesHi mode negative m rest step v ≡ takesHi mode negative m rest step w
-unfolding takesHi wordRead
+unfolding takesHi
 choice-reads TiesToEven negative m rest step v w e = refl
 choice-reads TiesToZero negative m rest step v w e = refl
 choice-reads TiesAway negative m rest step v w e = refl
@@ -244,8 +245,8 @@ choice-reads TowardZero negative m rest step v w e = refl
 choice-reads TowardPlus negative m rest step v w e = refl
 choice-reads TowardMinus negative m rest step v w e = refl
 choice-reads ToOdd negative m rest step v w e = refl
-choice-reads (Stochastic r) negative m rest step v w e = ap (λ (x : ℕ). leb (2 ^ r) (K r rest step + x)) e
-choice-reads EvenChance negative m rest step v w e = ap (λ (x : ℕ). eqb x 1) e
+choice-reads (Stochastic r) negative m rest step v w e = ap (λ (x : ℕ). leb (2 ^ r) (K r rest step + x)) (e .random r refl)
+choice-reads EvenChance negative m rest step v w e = ap (λ (x : ℕ). eqb x 1) (e .last refl)
 
 -- random bits never move an exact input: the table needs no case for it
 pub stochastic-exact : (r : ℕ) (negative : Bool) (m step word : ℕ) → takesHi (Stochastic r) negative m 0 step word ≡ false

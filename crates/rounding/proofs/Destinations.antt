@@ -8,14 +8,14 @@ use native.Mathlib.Nat.{le-refl, le-of-lt, le-of-eq, lt-irrefl, lt-of-lt-of-le, 
 use borrow.Author.Tests.{lt-ltb, le-ltb, eq-eqb, ne-eqb}
 use Rattle.laws.proofs.Orders.{below-or-not}
 use Rattle.grid.specs.declared.Format.{Format}
-use Rattle.grid.specs.Patterns.{infinity, pat}
+use Rattle.grid.specs.Patterns.{infinity, pat, Short}
 use Rattle.grid.specs.Formats.{InRange, step, xmax, T}
 use Rattle.grid.specs.Candidates.{Candidate}
 use Rattle.grid.specs.Candidates.Candidate.{top}
 use Rattle.grid.specs.Neighbours.{lo, hi}
-use Rattle.grid.proofs.Values.{binary64-finite}
+use Rattle.grid.proofs.Values.{binary64-finite, pat-increasing}
 use Rattle.grid.proofs.Candidates.{candidate-short, top-not-above}
-use Rattle.grid.proofs.Neighbours.{lo-not-above, lo-candidate, hi-candidate}
+use Rattle.grid.proofs.Neighbours.{lo-not-above, lo-below-hi, lo-candidate, hi-candidate}
 use Rattle.grid.proofs.Ends.{xmax-candidate, xmax-below-top}
 use Rattle.rounding.specs.declared.Mode.{Mode}
 use Rattle.rounding.specs.Modes.{takesHi, overflows}
@@ -96,6 +96,23 @@ module _ (f : Format) (r : InRange f) where
           subst (λ (y : ℕ). y ≤ infinity) (sym (below-written f c below))
           (le-of-lt (binary64-finite c (record { short = candidate-short f r c among; below = lt-of-lt-of-le below (top-not-above f r) })))
       go (inr reached) = le-of-eq (reached-written f c reached)
+
+  -- lo and hi are written by two patterns, in their order
+  pub written-apart : (a : ℕ) → a < T f → written f (lo f a) < written f (hi f a)
+  written-apart a below = go (below-or-not (hi f a) (T f))
+    where
+      low : Short (lo f a)
+      low = candidate-short f r (lo f a) (lo-candidate f r a below)
+
+      go : (hi f a < T f) ⊎ (T f ≤ hi f a) → written f (lo f a) < written f (hi f a)
+      go (inl under) =
+          subst (λ (y : ℕ). y < written f (hi f a)) (sym (lo-written f a below))
+          (subst (λ (y : ℕ). pat (lo f a) < y) (sym (below-written f (hi f a) under))
+          (pat-increasing (lo f a) (hi f a) low (candidate-short f r (hi f a) (hi-candidate f r a below)) (lo-below-hi f a)))
+      go (inr reached) =
+          subst (λ (y : ℕ). y < written f (hi f a)) (sym (lo-written f a below))
+          (subst (λ (y : ℕ). pat (lo f a) < y) (sym (reached-written f (hi f a) reached))
+          (binary64-finite (lo f a) (record { short = low; below = lt-of-le-of-lt (lo-not-above f a) (lt-of-lt-of-le below (top-not-above f r)) })))
 
   module _ (mode : Mode) (negative : Bool) (word a : ℕ) where
     -- the one that is taken is one

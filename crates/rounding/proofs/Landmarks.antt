@@ -10,7 +10,7 @@ use Rattle.grid.proofs.Ranges.{in-range-bounds}
 use Rattle.grid.proofs.Landmarks.{power-pattern-is, pattern-in-range}
 use Rattle.grid.proofs.Steps.{zeta-sub, zeta-no-sub, zeta-not-above}
 use Rattle.rounding.specs.declared.Mode.{Mode}
-use Rattle.rounding.specs.Settled.{settings}
+use Rattle.rounding.specs.BySettings.{settings}
 
 module _ (f : Format) (passed : inRange f ≡ true) where
   pub range-bounds : InRange f

@@ -10,7 +10,7 @@ pub mod Agreement
 pub mod ModeTables
 pub mod Increments
 pub mod Landmarks
-pub mod Settling
+pub mod BySettings
 pub mod Refusals
 pub mod WholeCalls
 pub mod Unique

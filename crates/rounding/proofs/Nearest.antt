@@ -1,5 +1,5 @@
 -- The three modes that round to nearest answer a nearest candidate, T among them. Assumes nothing.
-use mathlib.Core.Bool.{Bool, true, false, _||_, _&&_, true≢false, false≢true}
+use mathlib.Core.Bool.{Bool, true, false, _||_, _&&_, true≢false}
 use mathlib.Core.Path.{_≡_, refl, sym, ap, _∙_, subst}
 use mathlib.Core.Logic.{_⊎_, inl, inr}
 use Prim.Native.Nat.{ℕ, _-_, _*_, _/_, _≤_, _<_}
@@ -19,29 +19,23 @@ use Rattle.grid.specs.Neighbours.{lo, hi}
 use Rattle.grid.proofs.Candidates.{candidate-not-above-top}
 use Rattle.grid.proofs.Neighbours.{lo-not-above, hi-above, lo-candidate, hi-candidate, hi-is-hi}
 use Rattle.rounding.specs.declared.Mode.{Mode}
-use Rattle.rounding.specs.declared.Mode.the-variants.{TiesToEven, TiesToZero, TiesAway, TowardZero, TowardPlus, TowardMinus, ToOdd, Stochastic, EvenChance}
+use Rattle.rounding.specs.declared.Mode.the-variants.{TiesToEven, TiesToZero, TiesAway}
 use Rattle.rounding.specs.Modes.{odd, takesHi, overflows}
 use Rattle.rounding.specs.Rounded.{taken, written, goesTo, rounded}
-use Rattle.rounding.specs.Nearness.{distance, Nearest, nearestMode}
+use Rattle.rounding.specs.Facts.{distance, Nearest, ToNearest}
+use Rattle.rounding.specs.Facts.ToNearest.{to-even, toward-zero, away-from-zero}
 use Rattle.rounding.proofs.Destinations.{top-written, taken-cases, below-goes, reached-goes}
 use Rattle.rounding.proofs.Answers.{finite-answer}
 
 -- ---- the table's lines
 
 -- what holds for each of the three modes holds for every mode that rounds to nearest
-nearest-cases : (P : Mode → Type 0) → P TiesToEven → P TiesToZero → P TiesAway → (mode : Mode) → nearestMode mode ≡ true → P mode
-unfolding nearestMode
-nearest-cases P even zero away TiesToEven nearest = even
-nearest-cases P even zero away TiesToZero nearest = zero
-nearest-cases P even zero away TiesAway nearest = away
-nearest-cases P even zero away TowardZero nearest = absurd (false≢true nearest)
-nearest-cases P even zero away TowardPlus nearest = absurd (false≢true nearest)
-nearest-cases P even zero away TowardMinus nearest = absurd (false≢true nearest)
-nearest-cases P even zero away ToOdd nearest = absurd (false≢true nearest)
-nearest-cases P even zero away (Stochastic r) nearest = absurd (false≢true nearest)
-nearest-cases P even zero away EvenChance nearest = absurd (false≢true nearest)
+nearest-cases : (P : Mode → Type 0) → P TiesToEven → P TiesToZero → P TiesAway → (mode : Mode) → ToNearest mode → P mode
+nearest-cases P even zero away mode (to-even e) = subst P (sym e) even
+nearest-cases P even zero away mode (toward-zero e) = subst P (sym e) zero
+nearest-cases P even zero away mode (away-from-zero e) = subst P (sym e) away
 
-module _ (mode : Mode) (nearest : nearestMode mode ≡ true) (negative : Bool) where
+module _ (mode : Mode) (nearest : ToNearest mode) (negative : Bool) where
   module _ (m rest G word : ℕ) where
     -- hi is taken only where the rest is at least half the step,
     hi-from-half : takesHi mode negative m rest G word ≡ true → G ≤ 2 * rest
@@ -111,7 +105,7 @@ module _ (f : Format) (r : InRange f) (a : ℕ) where
 
 -- ---- the answer
 
-module _ (f : Format) (r : InRange f) (mode : Mode) (nearest : nearestMode mode ≡ true) where
+module _ (f : Format) (r : InRange f) (mode : Mode) (nearest : ToNearest mode) where
   -- below T the candidate that is taken is nearest
   pub taken-nearest : (negative : Bool) (word a : ℕ) → a < T f → Nearest f a (taken f mode negative word a)
   taken-nearest negative word a below =

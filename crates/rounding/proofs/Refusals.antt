@@ -1,6 +1,6 @@
 -- The refusals, as the code comes to them, and what a call that is not refused may lean on. Assumes nothing.
 use mathlib.Core.Bool.{Bool, true, false, cond, not, _&&_}
-use mathlib.Core.Path.{_≡_, refl, sym, _∙_}
+use mathlib.Core.Path.{_≡_, refl, sym, ap, _∙_, subst}
 use Prim.Native.Nat.{ℕ, zero, suc, _≤_, _<_}
 use native.Mathlib.Omega.{arith}
 use lib.Dec.{ltb, eqb}
@@ -8,7 +8,10 @@ use borrow.Author.Tests.{lt-ltb, le-ltb, eq-eqb, ne-eqb}
 use Rattle.grid.specs.declared.Format.{Format}
 use Rattle.grid.specs.Formats.{between, precisionFits, exponentFits, inRange}
 use Rattle.grid.proofs.Ranges.{between-least, between-most}
-use Rattle.rounding.specs.Modes.{modeOf, ModeFits}
+use Rattle.rounding.specs.declared.Mode.{Mode}
+use Rattle.rounding.specs.declared.Mode.the-variants.{TiesToEven, TiesToZero, TiesAway, TowardZero, TowardPlus, TowardMinus, ToOdd, Stochastic, EvenChance}
+use Rattle.rounding.specs.Modes.{modeOf}
+use Rattle.rounding.specs.Facts.{ModeFits}
 use Rattle.rounding.specs.Calls.{bitsFit, refusal}
 
 -- ---- one test after the other
@@ -71,16 +74,35 @@ accepted-bits f r none =
     go true false b h = absurd (omega arith)
     go false x b h = absurd (omega arith)
 
+-- the random bits that a mode holds, and one more; 0 where it holds none
+abbrev holds : Mode → ℕ
+holds TiesToEven = 0
+holds TiesToZero = 0
+holds TiesAway = 0
+holds TowardZero = 0
+holds TowardPlus = 0
+holds TowardMinus = 0
+holds ToOdd = 0
+holds (Stochastic r) = suc r
+holds EvenChance = 0
+
+-- only number 7 is stochastic rounding, with the call's r
+stochastic-is-seven : (mode r b : ℕ) → holds (modeOf mode r) ≡ suc b → (mode ≡ 7) × (r ≡ b)
+unfolding modeOf
+stochastic-is-seven zero r b e = absurd (omega arith)
+stochastic-is-seven (suc zero) r b e = absurd (omega arith)
+stochastic-is-seven (suc (suc zero)) r b e = absurd (omega arith)
+stochastic-is-seven (suc (suc (suc zero))) r b e = absurd (omega arith)
+stochastic-is-seven (suc (suc (suc (suc zero)))) r b e = absurd (omega arith)
+stochastic-is-seven (suc (suc (suc (suc (suc zero))))) r b e = absurd (omega arith)
+stochastic-is-seven (suc (suc (suc (suc (suc (suc zero)))))) r b e = absurd (omega arith)
+stochastic-is-seven (suc (suc (suc (suc (suc (suc (suc zero))))))) r b e = (refl, omega arith)
+stochastic-is-seven (suc (suc (suc (suc (suc (suc (suc (suc zero)))))))) r b e = absurd (omega arith)
+stochastic-is-seven (suc (suc (suc (suc (suc (suc (suc (suc (suc n))))))))) r b e = absurd (omega arith)
+
 -- so its mode is one of document 01's
 pub accepted-mode-fits : (f : Format) (mode r : ℕ) → refusal f mode r ≡ 0 → ModeFits (modeOf mode r)
-unfolding modeOf
-accepted-mode-fits f zero r none = tt
-accepted-mode-fits f (suc zero) r none = tt
-accepted-mode-fits f (suc (suc zero)) r none = tt
-accepted-mode-fits f (suc (suc (suc zero))) r none = tt
-accepted-mode-fits f (suc (suc (suc (suc zero)))) r none = tt
-accepted-mode-fits f (suc (suc (suc (suc (suc zero))))) r none = tt
-accepted-mode-fits f (suc (suc (suc (suc (suc (suc zero)))))) r none = tt
-accepted-mode-fits f (suc (suc (suc (suc (suc (suc (suc zero))))))) r none = accepted-bits f r none
-accepted-mode-fits f (suc (suc (suc (suc (suc (suc (suc (suc zero)))))))) r none = tt
-accepted-mode-fits f (suc (suc (suc (suc (suc (suc (suc (suc (suc n))))))))) r none = tt
+accepted-mode-fits f mode r none b is =
+    let seven = stochastic-is-seven mode r b (ap holds is) in
+    let bits = accepted-bits f r (ap (λ (k : ℕ). refusal f k r) (sym (seven .0)) ∙ none) in
+    subst (λ (k : ℕ). (1 ≤ k) × (k ≤ 53)) (seven .1) bits

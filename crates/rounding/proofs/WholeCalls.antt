@@ -12,10 +12,10 @@ use Rattle.rounding.specs.declared.Prepared.{Prepared}
 use Rattle.rounding.specs.declared.Prepared.the-variants.{Ready, Refused}
 use Rattle.rounding.specs.Modes.{modeOf}
 use Rattle.rounding.specs.Rounded.{rounded}
-use Rattle.rounding.specs.Settled.{settings, settled}
+use Rattle.rounding.specs.BySettings.{settings, roundedBy}
 use Rattle.rounding.specs.Calls.{refusal, prepared, answered, refused, roundOne}
 use Rattle.rounding.proofs.Refusals.{accepted-in-range, accepted-mode-fits}
-use Rattle.rounding.proofs.Agreement.{settled-is-rounded}
+use Rattle.rounding.proofs.Agreement.{rounded-by-settings}
 
 -- ---- what is prepared
 
@@ -45,11 +45,11 @@ numberIn (Refused n) = n
 
 module _ (f : Format) (mode r word x : ℕ) (p : Prepared) (e : p ≡ prepared f mode r) where
   -- what a call that is not refused answers: the rounded pattern
-  accepted-pattern : refusal f mode r ≡ 0 → settled (settings f (modeOf mode r)) word x ≡ rounded f (modeOf mode r) word x
+  accepted-pattern : refusal f mode r ≡ 0 → roundedBy (settings f (modeOf mode r)) word x ≡ rounded f (modeOf mode r) word x
   accepted-pattern none =
-      settled-is-rounded f (in-range-bounds f (accepted-in-range f mode r 0 (sym none) refl)) (modeOf mode r) (accepted-mode-fits f mode r none) word x
+      rounded-by-settings f (in-range-bounds f (accepted-in-range f mode r 0 (sym none) refl)) (modeOf mode r) (accepted-mode-fits f mode r none) word x
 
-  pub answer-ready : (s : Settings) → p ≡ Ready s → (y : ℕ) → y ≡ settled s word x → answered y ≡ roundOne f mode r word x
+  pub answer-ready : (s : Settings) → p ≡ Ready s → (y : ℕ) → y ≡ roundedBy s word x → answered y ≡ roundOne f mode r word x
   unfolding prepared roundOne
   answer-ready s is y goes = go (eqb (refusal f mode r) 0) refl (sym e ∙ is)
     where
@@ -57,7 +57,7 @@ module _ (f : Format) (mode r word x : ℕ) (p : Prepared) (e : p ≡ prepared f
           → answered y ≡ cond b (answered (rounded f (modeOf mode r) word x)) (refused (refusal f mode r))
       go true passed same =
           ap answered
-          (goes ∙ ap (λ (t : Settings). settled t word x) (sym (ap (settingsIn s) same)) ∙ accepted-pattern (eqb-true (refusal f mode r) 0 passed))
+          (goes ∙ ap (λ (t : Settings). roundedBy t word x) (sym (ap (settingsIn s) same)) ∙ accepted-pattern (eqb-true (refusal f mode r) 0 passed))
       go false failed same = absurd (false≢true (ap isReady same))
 
   pub answer-refused : (n : ℕ) → p ≡ Refused n → refused n ≡ roundOne f mode r word x

@@ -9,7 +9,7 @@ use Rattle.rounding.specs.declared.Prepared.{Prepared}
 use Rattle.rounding.specs.declared.Prepared.the-variants.{Ready, Refused}
 use Rattle.rounding.specs.Modes.{modeOf}
 use Rattle.rounding.specs.Rounded.{rounded}
-use Rattle.rounding.specs.Settled.{settings}
+use Rattle.rounding.specs.BySettings.{settings}
 
 -- r runs from 1 to 53
 unfoldable pub bitsFit : ℕ → Bool

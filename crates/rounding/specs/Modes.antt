@@ -1,7 +1,7 @@
 -- The nine modes and their two tables, a line a mode (document 01, "Rounding one pattern"). Assumes nothing.
 use mathlib.Core.Bool.{Bool, true, false, not, _&&_, _||_}
 use mathlib.Core.List.{List, [], _∷_}
-use Prim.Native.Nat.{ℕ, _+_, _*_, _/_, _%_, _^_, _≤_}
+use Prim.Native.Nat.{ℕ, _+_, _*_, _/_, _%_, _^_}
 use lib.Dec.{leb, ltb, eqb}
 use lib.ListN.{getD}
 use Rattle.rounding.specs.declared.Mode.{Mode}
@@ -54,27 +54,3 @@ overflows TowardMinus negative = negative
 overflows ToOdd negative = false
 overflows (Stochastic r) negative = true
 overflows EvenChance negative = true
-
--- where stochastic rounding is document 01's: r runs from 1 to 53; the other modes have no r
-abbrev pub ModeFits : Mode → Type 0
-ModeFits TiesToEven = Unit {0}
-ModeFits TiesToZero = Unit {0}
-ModeFits TiesAway = Unit {0}
-ModeFits TowardZero = Unit {0}
-ModeFits TowardPlus = Unit {0}
-ModeFits TowardMinus = Unit {0}
-ModeFits ToOdd = Unit {0}
-ModeFits (Stochastic r) = (1 ≤ r) × (r ≤ 53)
-ModeFits EvenChance = Unit {0}
-
--- the part of the word that a mode looks at
-unfoldable pub wordRead : Mode → ℕ → ℕ
-wordRead TiesToEven word = 0
-wordRead TiesToZero word = 0
-wordRead TiesAway word = 0
-wordRead TowardZero word = 0
-wordRead TowardPlus word = 0
-wordRead TowardMinus word = 0
-wordRead ToOdd word = 0
-wordRead (Stochastic r) word = u r word
-wordRead EvenChance word = word % 2

@@ -1,6 +1,6 @@
 // The calls: what is refused, and what is answered.
 ghost use mathlib.Core.Path.{_≡_};
-ghost use Rattle.rounding.specs.Settled.{settled};
+ghost use Rattle.rounding.specs.BySettings.{roundedBy};
 ghost use Rattle.rounding.specs.Calls.{bitsFit, refusal, prepared, roundOne};
 use super::Answer;
 use super::Prepared;
@@ -60,7 +60,7 @@ pub fn prepare(format: Format, mode: u64, r: u64) -> Prepared
 
 // The pattern x rounded by the settings. The word is looked at in modes 7 and 8 only.
 pub fn round_by(s: Settings, word: u64, x: u64) -> u64
-    ensures { λ y. ⌜ y ≡ settled s word x ⌝ }
+    ensures { λ y. ⌜ y ≡ roundedBy s word x ⌝ }
 {
     let kind = kind_of(x);
     match kind {

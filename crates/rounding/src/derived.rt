@@ -2,7 +2,7 @@
 ghost use mathlib.Core.Bool.{true};
 ghost use mathlib.Core.Path.{_≡_};
 ghost use Rattle.grid.specs.Formats.{inRange, zetaExp};
-ghost use Rattle.rounding.specs.Settled.{settings};
+ghost use Rattle.rounding.specs.BySettings.{settings};
 use super::Mode;
 use super::Settings;
 use grid::Format;

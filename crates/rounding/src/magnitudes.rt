@@ -2,7 +2,7 @@
 // last kept digit.
 ghost use mathlib.Core.Path.{_≡_};
 ghost use Prim.Native.Nat.{_^_, _<_, min};
-ghost use Rattle.rounding.specs.Settled.{place, kept, trace, unkept, moved, settledTo};
+ghost use Rattle.rounding.specs.BySettings.{place, kept, trace, unkept, moved, goesToBy};
 use super::Settings;
 use super::modes::increment_of;
 use super::modes::overflows_to_infinity;
@@ -92,7 +92,7 @@ fn round_below_top(s: Settings, negative: bool, word: u64, m: u64) -> u64
 // alone counts.
 pub(crate) fn round_magnitude(s: Settings, negative: bool, word: u64, m: u64) -> u64
     requires { ⌜ m < 2 ^ 63 ⌝ }
-    ensures { λ y. ⌜ y ≡ settledTo s negative word m ⌝ }
+    ensures { λ y. ⌜ y ≡ goesToBy s negative word m ⌝ }
 {
     if m < s.top {
         let y = round_below_top(s, negative, word, m);

@@ -1,6 +1,6 @@
 -- `rounding::calls::round_by` meets its contract. Assumes nothing.
 use borrow.Author.Needs.{needs}
-use Rattle.rounding.proofs.Settling.{zero-settled, finite-settled, infinity-settled, nan-settled, magnitude-below}
+use Rattle.rounding.proofs.BySettings.{zero-back, finite-rounded, infinity-back, nan-back, magnitude-below}
 use Rattle.rounding.proofs.calls.round_by.Statement.{statement}
 use Rattle.rounding.proofs.calls.round_by.Tie as tie
 
@@ -32,16 +32,16 @@ enum-told-4 : tie.Need-enum-told-4
 enum-told-4 c = search needs
 
 returns : tie.Need-returns
-returns c = search zero-settled
+returns c = search zero-back
 
 returns-2 : tie.Need-returns-2
-returns-2 c = search finite-settled
+returns-2 c = search finite-rounded
 
 returns-3 : tie.Need-returns-3
-returns-3 c = search infinity-settled
+returns-3 c = search infinity-back
 
 returns-4 : tie.Need-returns-4
-returns-4 c = search nan-settled
+returns-4 c = search nan-back
 
 pub round-by-spec : {M : Type 1} → statement M
 round-by-spec =

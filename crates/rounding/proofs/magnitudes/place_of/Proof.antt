@@ -1,6 +1,6 @@
 -- `rounding::magnitudes::place_of` meets its contract. Assumes nothing.
 use borrow.Author.Needs.{needs}
-use Rattle.rounding.proofs.Settling.{place-normal, place-under, place-bottom}
+use Rattle.rounding.proofs.BySettings.{place-normal, place-under, place-bottom}
 use Rattle.rounding.proofs.magnitudes.place_of.Statement.{statement}
 use Rattle.rounding.proofs.magnitudes.place_of.Tie as tie
 

@@ -1,6 +1,6 @@
 -- `rounding::magnitudes::round_below_top` meets its contract. Assumes nothing.
 use borrow.Author.Needs.{needs}
-use Rattle.rounding.proofs.Settling.{moved-kept, moved-unkept}
+use Rattle.rounding.proofs.BySettings.{moved-kept, moved-unkept}
 use Rattle.rounding.proofs.magnitudes.round_below_top.Statement.{statement}
 use Rattle.rounding.proofs.magnitudes.round_below_top.Tie as tie
 

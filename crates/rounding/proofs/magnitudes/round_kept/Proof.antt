@@ -1,6 +1,6 @@
 -- `rounding::magnitudes::round_kept` meets its contract. Assumes nothing.
 use borrow.Author.Needs.{needs}
-use Rattle.rounding.proofs.Settling.{kept-fits, kept-is}
+use Rattle.rounding.proofs.BySettings.{kept-fits, kept-is}
 use Rattle.rounding.proofs.magnitudes.round_kept.Statement.{statement}
 use Rattle.rounding.proofs.magnitudes.round_kept.Tie as tie
 

@@ -1,6 +1,6 @@
 -- `rounding::magnitudes::round_magnitude` meets its contract. Assumes nothing.
 use borrow.Author.Needs.{needs}
-use Rattle.rounding.proofs.Settling.{settled-below, settled-at-top, settled-to-infinity, settled-to-xmax}
+use Rattle.rounding.proofs.BySettings.{goes-below-top, goes-to-top, goes-to-infinity, goes-to-xmax}
 use Rattle.rounding.proofs.magnitudes.round_magnitude.Statement.{statement}
 use Rattle.rounding.proofs.magnitudes.round_magnitude.Tie as tie
 
@@ -8,19 +8,19 @@ round-below-top-requires : tie.Need-round-below-top-requires
 round-below-top-requires c κs = search needs
 
 returns : tie.Need-returns
-returns c = search settled-below
+returns c = search goes-below-top
 
 returns-2 : tie.Need-returns-2
-returns-2 c = search settled-at-top
+returns-2 c = search goes-to-top
 
 overflows-to-infinity-requires : tie.Need-overflows-to-infinity-requires
 overflows-to-infinity-requires c κs = search needs
 
 returns-3 : tie.Need-returns-3
-returns-3 c = search settled-to-infinity
+returns-3 c = search goes-to-infinity
 
 returns-4 : tie.Need-returns-4
-returns-4 c = search settled-to-xmax
+returns-4 c = search goes-to-xmax
 
 pub round-magnitude-spec : {M : Type 1} → statement M
 round-magnitude-spec =

@@ -1,6 +1,6 @@
 -- `rounding::magnitudes::round_unkept` meets its contract. Assumes nothing.
 use borrow.Author.Needs.{needs}
-use Rattle.rounding.proofs.Settling.{unkept-fits, unkept-reached, unkept-missed}
+use Rattle.rounding.proofs.BySettings.{unkept-fits, unkept-reached, unkept-missed}
 use Rattle.rounding.proofs.magnitudes.round_unkept.Statement.{statement}
 use Rattle.rounding.proofs.magnitudes.round_unkept.Tie as tie
 

@@ -1,6 +1,6 @@
 -- `rounding::magnitudes::trace_of` meets its contract. Assumes nothing.
 use borrow.Author.Needs.{needs}
-use Rattle.rounding.proofs.Settling.{trace-of-nothing, trace-of-something}
+use Rattle.rounding.proofs.BySettings.{trace-of-nothing, trace-of-something}
 use Rattle.rounding.proofs.magnitudes.trace_of.Statement.{statement}
 use Rattle.rounding.proofs.magnitudes.trace_of.Tie as tie
 

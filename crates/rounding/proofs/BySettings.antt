@@ -1,4 +1,4 @@
--- Rounding by settings, as the code comes to it: each definition of specs/Settled.antt in the form in which calls and
+-- Rounding by settings, as the code comes to it: each definition of specs/BySettings.antt in the form in which calls and
 -- branches leave its parts. Assumes nothing.
 use mathlib.Core.Bool.{Bool, true, false, cond}
 use mathlib.Core.Path.{_≡_, sym, ap, ap₂, _∙_}
@@ -19,7 +19,7 @@ use Rattle.rounding.specs.declared.Settings.{Settings}
 use Rattle.rounding.specs.Modes.{overflows}
 use Rattle.rounding.specs.Increments.{increment}
 use Rattle.rounding.specs.Rounded.{answerTo}
-use Rattle.rounding.specs.Settled.{place, kept, trace, unkept, moved, settledTo, settled}
+use Rattle.rounding.specs.BySettings.{place, kept, trace, unkept, moved, goesToBy, roundedBy}
 use Rattle.rounding.proofs.Choices.{increment-below}
 
 -- ---- the place
@@ -113,41 +113,41 @@ module _ (s : Settings) (negative : Bool) (word m d y : ℕ) (at : d ≡ place s
 
 module _ (s : Settings) (negative : Bool) (word m : ℕ) where
   module _ (below : m < s .top) (y : ℕ) (e : y ≡ moved s negative word m) where
-    pub settled-below : y < s .top → y ≡ settledTo s negative word m
-    unfolding settledTo
-    settled-below h = simp (lt-ltb m (s .top) below, ← e, lt-ltb y (s .top) h)
+    pub goes-below-top : y < s .top → y ≡ goesToBy s negative word m
+    unfolding goesToBy
+    goes-below-top h = simp (lt-ltb m (s .top) below, ← e, lt-ltb y (s .top) h)
 
-    pub settled-at-top : s .top ≤ y → infinity ≡ settledTo s negative word m
-    unfolding settledTo
-    settled-at-top h = simp (lt-ltb m (s .top) below, ← e, le-ltb y (s .top) h)
+    pub goes-to-top : s .top ≤ y → infinity ≡ goesToBy s negative word m
+    unfolding goesToBy
+    goes-to-top h = simp (lt-ltb m (s .top) below, ← e, le-ltb y (s .top) h)
 
   module _ (past : s .top ≤ m) (b : Bool) (e : b ≡ overflows (s .mode) negative) where
-    pub settled-to-infinity : b ≡ true → infinity ≡ settledTo s negative word m
-    unfolding settledTo
-    settled-to-infinity h = simp (le-ltb m (s .top) past, ← e, h)
+    pub goes-to-infinity : b ≡ true → infinity ≡ goesToBy s negative word m
+    unfolding goesToBy
+    goes-to-infinity h = simp (le-ltb m (s .top) past, ← e, h)
 
-    pub settled-to-xmax : b ≡ false → s .xmax ≡ settledTo s negative word m
-    unfolding settledTo
-    settled-to-xmax h = simp (le-ltb m (s .top) past, ← e, h)
+    pub goes-to-xmax : b ≡ false → s .xmax ≡ goesToBy s negative word m
+    unfolding goesToBy
+    goes-to-xmax h = simp (le-ltb m (s .top) past, ← e, h)
 
 -- ---- the pattern, by what it is
 
 module _ (s : Settings) (word x : ℕ) (k : Kind) (e : k ≡ kindOf x) where
-  pub zero-settled : k ≡ Zero → x ≡ settled s word x
-  unfolding settled answerTo
-  zero-settled is = simp (← e, is)
+  pub zero-back : k ≡ Zero → x ≡ roundedBy s word x
+  unfolding roundedBy answerTo
+  zero-back is = simp (← e, is)
 
-  pub infinity-settled : k ≡ Infinity → x ≡ settled s word x
-  unfolding settled answerTo
-  infinity-settled is = simp (← e, is)
+  pub infinity-back : k ≡ Infinity → x ≡ roundedBy s word x
+  unfolding roundedBy answerTo
+  infinity-back is = simp (← e, is)
 
-  pub nan-settled : k ≡ NaN → x ≡ settled s word x
-  unfolding settled answerTo
-  nan-settled is = simp (← e, is)
+  pub nan-back : k ≡ NaN → x ≡ roundedBy s word x
+  unfolding roundedBy answerTo
+  nan-back is = simp (← e, is)
 
-  pub finite-settled : k ≡ Finite → (b : Bool) → b ≡ sign x → (m : ℕ) → m ≡ mag x → (y : ℕ) → y ≡ settledTo s b word m → (z : ℕ) → z ≡ withSign x y → z ≡ settled s word x
-  unfolding settled answerTo
-  finite-settled is b signed m same y goes z put = simp (← e, is, put, goes, signed, same)
+  pub finite-rounded : k ≡ Finite → (b : Bool) → b ≡ sign x → (m : ℕ) → m ≡ mag x → (y : ℕ) → y ≡ goesToBy s b word m → (z : ℕ) → z ≡ withSign x y → z ≡ roundedBy s word x
+  unfolding roundedBy answerTo
+  finite-rounded is b signed m same y goes z put = simp (← e, is, put, goes, signed, same)
 
 -- a magnitude leaves the sign bit free
 pub magnitude-below : (x m : ℕ) → m ≡ mag x → m < 2 ^ 63

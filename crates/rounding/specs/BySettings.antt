@@ -1,5 +1,5 @@
 -- The answer's pattern as it is computed, from settings that are worked out once for a format and a mode. That it is the
--- rounded pattern is the law `settled-is-rounded`. For settings of any other numbers it is only what the code does.
+-- rounded pattern is the law `rounded-by-settings`. For settings of any other numbers it is only what the code does.
 -- Assumes nothing.
 use mathlib.Core.Bool.{Bool, cond}
 use Prim.Native.Nat.{ℕ, _+_, _-_, _*_, _^_, min, max}
@@ -54,11 +54,11 @@ moved s negative word m =
     cond (ltb d 53) (kept s negative word m d) (unkept s negative word m d)
 
 -- the magnitude pattern that m goes to: T is written as infinity, and from T on the overflow column alone counts
-unfoldable pub settledTo : Settings → Bool → ℕ → ℕ → ℕ
-settledTo s negative word m =
+unfoldable pub goesToBy : Settings → Bool → ℕ → ℕ → ℕ
+goesToBy s negative word m =
     let y = moved s negative word m in
     cond (ltb m (s .top)) (cond (ltb y (s .top)) y infinity) (cond (overflows (s .mode) negative) infinity (s .xmax))
 
 -- the answer's pattern, for every 64-bit input
-unfoldable pub settled : Settings → ℕ → ℕ → ℕ
-settled s word x = answerTo (kindOf x) x (settledTo s (sign x) word (mag x))
+unfoldable pub roundedBy : Settings → ℕ → ℕ → ℕ
+roundedBy s word x = answerTo (kindOf x) x (goesToBy s (sign x) word (mag x))
