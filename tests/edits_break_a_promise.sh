@@ -1,14 +1,17 @@
 #!/usr/bin/env bash
 # Each must-fail edit has to be refused at a promise: the prover's first complaint is about a need
-# named `returns`, `returns-2`, .., and not about a sum that may not fit or a proof file that no
-# longer has the right needs. That the edited answer is wrong, and not only another way to the right
-# one, the prover cannot say: the edit's first line has to name the rule that it breaks.
+# named `returns`, `returns-2`, .., and every other one is of that kind too or follows from it ("was
+# not admitted"). A complaint about a sum that may not fit, or about a proof file that no longer has
+# the right needs, shows nothing about the answer. That the edited answer is wrong, and not only
+# another way to the right one, the prover cannot say: the edit's first line has to name the rule that
+# it breaks.
 # The prover's words on each edit stand in target/must-fail/CRATE/LABEL/.log after rt ci or
 # rt must-fail.
 set -euo pipefail
 unset CDPATH
 cd "$(dirname "$0")/.."
 
+at_a_promise='(error: |\()`returns(-[0-9]+)?`'
 tried=0 unfit=0
 for edit in crates/*/must-fail/*.edit; do
     crate=$(basename "$(dirname "$(dirname "$edit")")")
@@ -22,9 +25,10 @@ for edit in crates/*/must-fail/*.edit; do
         echo "$edit: its first line does not name the rule that it breaks" >&2
         unfit=$((unfit + 1))
     }
-    first=$(grep -m 1 -E ': error|^note: .*: it is not proved that' "$log" || true)
-    if ! [[ $first =~ (error:\ |\()\`returns(-[0-9]+)?\` ]]; then
-        echo "$edit: refused, but not at a promise: ${first:-nothing was said}" >&2
+    complaints=$(grep -E ': error|^note: .*: it is not proved that' "$log" || true)
+    elsewhere=$(grep -vE "$at_a_promise|was not admitted" <<<"$complaints" || true)
+    if ! grep -qE "$at_a_promise" <<<"$complaints" || [ -n "$elsewhere" ]; then
+        echo "$edit: refused, but not at a promise alone: ${elsewhere:-nothing was said}" >&2
         unfit=$((unfit + 1))
     fi
 done

@@ -65,7 +65,10 @@ pub fn round_by(s: Settings, word: u64, x: u64) -> u64
     let kind = kind_of(x);
     match kind {
         Kind::Zero => x,
-        Kind::Finite => with_sign(x, round_magnitude(s, sign_of(x), word, magnitude_of(x))),
+        Kind::Finite => {
+            let m = round_magnitude(s, sign_of(x), word, magnitude_of(x));
+            with_sign(x, m)
+        }
         Kind::Infinity => x,
         Kind::NaN => x,
     }
