@@ -7,7 +7,7 @@ use Rattle.rounding.proofs.calls.round_by.Reads as round-by
 use Rattle.rounding.proofs.calls.round_one.Reads as round-one
 
 pub prepare-unique : OneAnswer prepare.Post
-prepare-unique κs a y z s t p q = p ∙ sym q
+prepare-unique κs a y z s t p q = p .1 ∙ sym (q .1)
 
 pub round-by-unique : OneAnswer round-by.Post
 round-by-unique κs a y z s t p q = p ∙ sym q

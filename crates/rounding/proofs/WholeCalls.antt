@@ -13,7 +13,7 @@ use Rattle.rounding.specs.declared.Prepared.the-variants.{Ready, Refused
 use Rattle.rounding.specs.Modes.{modeOf}
 use Rattle.rounding.specs.Rounded.{rounded}
 use Rattle.rounding.specs.BySettings.{settings, roundedBy}
-use Rattle.rounding.specs.Calls.{refusal, prepared, answered, refused, roundOne}
+use Rattle.rounding.specs.Calls.{refusal, prepared, numberOf, answered, refused, roundOne}
 use Rattle.rounding.proofs.Refusals.{accepted-in-range, accepted-mode-fits}
 use Rattle.rounding.proofs.Agreement.{rounded-by-settings}
 
@@ -28,6 +28,15 @@ module _ (f : Format) (mode r n : ℕ) (e : n ≡ refusal f mode r) where
   unfolding prepared
   prepared-refused some = simp (← e, ne-eqb n 0 some)
 
+  -- the number of either is the refusal's
+  pub ready-number : n ≡ 0 → (s : Settings) → numberOf (Ready s) ≡ refusal f mode r
+  unfolding numberOf
+  ready-number none s = sym none ∙ e
+
+  pub refused-number : numberOf (Refused n) ≡ refusal f mode r
+  unfolding numberOf
+  refused-number = e
+
 -- ---- the answer to one pattern
 
 -- what stands in either answer
@@ -38,10 +47,6 @@ isReady (Refused n) = false
 abbrev settingsIn : Settings → Prepared → Settings
 settingsIn other (Ready s) = s
 settingsIn other (Refused n) = other
-
-abbrev numberIn : Prepared → ℕ
-numberIn (Ready s) = 0
-numberIn (Refused n) = n
 
 module _ (f : Format) (mode r word x : ℕ) (p : Prepared) (e : p ≡ prepared f mode r) where
   -- what a call that is not refused answers: the rounded pattern
@@ -61,10 +66,10 @@ module _ (f : Format) (mode r word x : ℕ) (p : Prepared) (e : p ≡ prepared f
       go false failed same = absurd (false≢true (ap isReady same))
 
   pub answer-refused : (n : ℕ) → p ≡ Refused n → refused n ≡ roundOne f mode r word x
-  unfolding prepared roundOne
+  unfolding prepared numberOf roundOne
   answer-refused n is = go (eqb (refusal f mode r) 0) (sym e ∙ is)
     where
       go : (b : Bool) → cond b (Ready (settings f (modeOf mode r))) (Refused (refusal f mode r)) ≡ Refused n
           → refused n ≡ cond b (answered (rounded f (modeOf mode r) word x)) (refused (refusal f mode r))
       go true same = absurd (false≢true (sym (ap isReady same)))
-      go false same = ap refused (sym (ap numberIn same))
+      go false same = ap refused (sym (ap numberOf same))

@@ -27,6 +27,11 @@ refusal f mode r =
 unfoldable pub prepared : Format → ℕ → ℕ → Prepared
 prepared f mode r = cond (eqb (refusal f mode r) 0) (Ready (settings f (modeOf mode r))) (Refused (refusal f mode r))
 
+-- document 01's number for what was prepared: 0 where nothing is refused
+unfoldable pub numberOf : Prepared → ℕ
+numberOf (Ready s) = 0
+numberOf (Refused number) = number
+
 -- the answer of a single call: number 0 and a pattern, or the refusal's number and pattern 0
 abbrev pub answered : ℕ → Answer
 answered y = record { number = 0; pattern = y }

@@ -1,7 +1,7 @@
 // The calls: what is refused, and what is answered.
 ghost use mathlib.Core.Path.{_≡_};
 ghost use Rattle.rounding.specs.BySettings.{roundedBy};
-ghost use Rattle.rounding.specs.Calls.{bitsFit, refusal, prepared, roundOne};
+ghost use Rattle.rounding.specs.Calls.{bitsFit, refusal, prepared, numberOf, roundOne};
 use super::Answer;
 use super::Prepared;
 use super::Settings;
@@ -49,7 +49,8 @@ fn refusal_of(format: Format, mode: u64, r: u64) -> u64
 
 // The settings to round by, or the refusal's number.
 pub fn prepare(format: Format, mode: u64, r: u64) -> Prepared
-    ensures { λ y. ⌜ y ≡ prepared format mode r ⌝ }
+    ensures number { λ y. ⌜ numberOf y ≡ refusal format mode r ⌝ }
+    ensures answer { λ y. ⌜ y ≡ prepared format mode r ⌝ }
 {
     let number = refusal_of(format, mode, r);
     if number == 0 {

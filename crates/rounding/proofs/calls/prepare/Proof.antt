@@ -1,7 +1,7 @@
 -- `rounding::calls::prepare` meets its contract. Assumes nothing.
 use borrow.Author.Needs.{needs}
 use Rattle.rounding.proofs.Refusals.{accepted-in-range}
-use Rattle.rounding.proofs.WholeCalls.{prepared-ready, prepared-refused}
+use Rattle.rounding.proofs.WholeCalls.{prepared-ready, prepared-refused, ready-number, refused-number}
 use Rattle.rounding.proofs.calls.prepare.Statement.{statement}
 use Rattle.rounding.proofs.calls.prepare.Tie as tie
 
@@ -15,10 +15,10 @@ settings-of-requires : tie.Need-settings-of-requires
 settings-of-requires c κs = search accepted-in-range
 
 returns : tie.Need-returns
-returns c = search prepared-ready
+returns c = (search ready-number, search prepared-ready)
 
 returns-2 : tie.Need-returns-2
-returns-2 c = search prepared-refused
+returns-2 c = (search refused-number, search prepared-refused)
 
 pub prepare-spec : {M : Type 1} → statement M
 prepare-spec =
