@@ -5,12 +5,6 @@ use Rattle.rounding.proofs.WholeCalls.{prepared-ready, prepared-refused
 use Rattle.rounding.proofs.calls.prepare.Statement.{statement}
 use Rattle.rounding.proofs.calls.prepare.Tie as tie
 
-refusal-of-requires : tie.Need-refusal-of-requires
-refusal-of-requires c κs = search needs
-
-mode-of-requires : tie.Need-mode-of-requires
-mode-of-requires c κs = search needs
-
 settings-of-requires : tie.Need-settings-of-requires
 settings-of-requires c κs = search accepted-in-range
 
@@ -23,4 +17,4 @@ returns-2 c = (search refused-number, search prepared-refused)
 pub prepare-spec : {M : Type 1} → statement M
 prepare-spec =
     tie.close
-    (tie.spec refusal-of-requires mode-of-requires settings-of-requires returns returns-2)
+    (tie.spec (λ c κs. search needs) (λ c κs. search needs) settings-of-requires returns returns-2)

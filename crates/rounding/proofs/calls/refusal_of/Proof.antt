@@ -4,23 +4,14 @@ use Rattle.rounding.proofs.Refusals.{refuses-precision, refuses-exponen
 use Rattle.rounding.proofs.calls.refusal_of.Statement.{statement}
 use Rattle.rounding.proofs.calls.refusal_of.Tie as tie
 
-precision-fits-requires : tie.Need-precision-fits-requires
-precision-fits-requires c κs = search needs
-
 returns : tie.Need-returns
 returns c = search refuses-precision
-
-exponent-fits-requires : tie.Need-exponent-fits-requires
-exponent-fits-requires c κs = search needs
 
 returns-2 : tie.Need-returns-2
 returns-2 c = search refuses-exponent
 
 returns-3 : tie.Need-returns-3
 returns-3 c = search refuses-mode
-
-bits-fit-requires : tie.Need-bits-fit-requires
-bits-fit-requires c κs = search needs
 
 returns-4 : tie.Need-returns-4
 returns-4 c = search accepts-bits
@@ -35,12 +26,12 @@ pub refusal-of-spec : {M : Type 1} → statement M
 refusal-of-spec =
     tie.close
     (tie.spec
-    precision-fits-requires
+    (λ c κs. search needs)
     returns
-    exponent-fits-requires
+    (λ c κs. search needs)
     returns-2
     returns-3
-    bits-fit-requires
+    (λ c κs. search needs)
     returns-4
     returns-5
     returns-6)

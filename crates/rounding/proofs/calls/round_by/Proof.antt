@@ -4,32 +4,8 @@ use Rattle.rounding.proofs.BySettings.{zero-back, finite-rounded, infin
 use Rattle.rounding.proofs.calls.round_by.Statement.{statement}
 use Rattle.rounding.proofs.calls.round_by.Tie as tie
 
-kind-of-requires : tie.Need-kind-of-requires
-kind-of-requires c κs = search needs
-
-enum-told : tie.Need-enum-told
-enum-told c = search needs
-
-enum-told-2 : tie.Need-enum-told-2
-enum-told-2 c = search needs
-
-sign-of-requires : tie.Need-sign-of-requires
-sign-of-requires c κs = search needs
-
-magnitude-of-requires : tie.Need-magnitude-of-requires
-magnitude-of-requires c κs = search needs
-
 round-magnitude-requires : tie.Need-round-magnitude-requires
 round-magnitude-requires c κs = search magnitude-below
-
-with-sign-requires : tie.Need-with-sign-requires
-with-sign-requires c κs = search needs
-
-enum-told-3 : tie.Need-enum-told-3
-enum-told-3 c = search needs
-
-enum-told-4 : tie.Need-enum-told-4
-enum-told-4 c = search needs
 
 returns : tie.Need-returns
 returns c = search zero-back
@@ -47,15 +23,15 @@ pub round-by-spec : {M : Type 1} → statement M
 round-by-spec =
     tie.close
     (tie.spec
-    kind-of-requires
-    enum-told
-    enum-told-2
-    sign-of-requires
-    magnitude-of-requires
+    (λ c κs. search needs)
+    (λ c. search needs)
+    (λ c. search needs)
+    (λ c κs. search needs)
+    (λ c κs. search needs)
     round-magnitude-requires
-    with-sign-requires
-    enum-told-3
-    enum-told-4
+    (λ c κs. search needs)
+    (λ c. search needs)
+    (λ c. search needs)
     returns
     returns-2
     returns-3

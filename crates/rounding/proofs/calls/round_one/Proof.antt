@@ -4,18 +4,6 @@ use Rattle.rounding.proofs.WholeCalls.{answer-ready, answer-refused}
 use Rattle.rounding.proofs.calls.round_one.Statement.{statement}
 use Rattle.rounding.proofs.calls.round_one.Tie as tie
 
-prepare-requires : tie.Need-prepare-requires
-prepare-requires c κs = search needs
-
-enum-known-prepared : tie.Need-enum-known-prepared
-enum-known-prepared c = search needs
-
-round-by-requires : tie.Need-round-by-requires
-round-by-requires c κs = search needs
-
-enum-known-prepared-2 : tie.Need-enum-known-prepared-2
-enum-known-prepared-2 c = search needs
-
 returns : tie.Need-returns
 returns c = search answer-ready
 
@@ -26,9 +14,9 @@ pub round-one-spec : {M : Type 1} → statement M
 round-one-spec =
     tie.close
     (tie.spec
-    prepare-requires
-    enum-known-prepared
-    round-by-requires
-    enum-known-prepared-2
+    (λ c κs. search needs)
+    (λ c. search needs)
+    (λ c κs. search needs)
+    (λ c. search needs)
     returns
     returns-2)

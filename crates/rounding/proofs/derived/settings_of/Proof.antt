@@ -6,9 +6,6 @@ use Rattle.rounding.proofs.Landmarks.{range-bounds, settings-are}
 use Rattle.rounding.proofs.derived.settings_of.Statement.{statement}
 use Rattle.rounding.proofs.derived.settings_of.Tie as tie
 
-zeta-exponent-requires : tie.Need-zeta-exponent-requires
-zeta-exponent-requires c κs = search needs
-
 sub-t4 : tie.Need-sub-t4
 sub-t4 c =
     let r : InRange (c .before .before .args .f) = search range-bounds in
@@ -19,15 +16,6 @@ sub-t5 c =
     let r : InRange (c .before .before .before .args .f) = search range-bounds in
     omega arith
 
-power-pattern-requires : tie.Need-power-pattern-requires
-power-pattern-requires c κs = search needs
-
-xmax-pattern-requires : tie.Need-xmax-pattern-requires
-xmax-pattern-requires c κs = search needs
-
-top-pattern-requires : tie.Need-top-pattern-requires
-top-pattern-requires c κs = search needs
-
 returns : tie.Need-returns
 returns c = search settings-are
 
@@ -35,10 +23,10 @@ pub settings-of-spec : {M : Type 1} → statement M
 settings-of-spec =
     tie.close
     (tie.spec
-    zeta-exponent-requires
+    (λ c κs. search needs)
     sub-t4
     sub-t5
-    power-pattern-requires
-    xmax-pattern-requires
-    top-pattern-requires
+    (λ c κs. search needs)
+    (λ c κs. search needs)
+    (λ c κs. search needs)
     returns)

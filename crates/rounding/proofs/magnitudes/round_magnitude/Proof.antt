@@ -4,17 +4,11 @@ use Rattle.rounding.proofs.BySettings.{goes-below-top, goes-to-top, goe
 use Rattle.rounding.proofs.magnitudes.round_magnitude.Statement.{statement}
 use Rattle.rounding.proofs.magnitudes.round_magnitude.Tie as tie
 
-round-below-top-requires : tie.Need-round-below-top-requires
-round-below-top-requires c κs = search needs
-
 returns : tie.Need-returns
 returns c = search goes-below-top
 
 returns-2 : tie.Need-returns-2
 returns-2 c = search goes-to-top
-
-overflows-to-infinity-requires : tie.Need-overflows-to-infinity-requires
-overflows-to-infinity-requires c κs = search needs
 
 returns-3 : tie.Need-returns-3
 returns-3 c = search goes-to-infinity
@@ -26,9 +20,9 @@ pub round-magnitude-spec : {M : Type 1} → statement M
 round-magnitude-spec =
     tie.close
     (tie.spec
-    round-below-top-requires
+    (λ c κs. search needs)
     returns
     returns-2
-    overflows-to-infinity-requires
+    (λ c κs. search needs)
     returns-3
     returns-4)

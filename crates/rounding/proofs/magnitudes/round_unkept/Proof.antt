@@ -4,24 +4,6 @@ use Rattle.rounding.proofs.BySettings.{unkept-fits, unkept-reached, unk
 use Rattle.rounding.proofs.magnitudes.round_unkept.Statement.{statement}
 use Rattle.rounding.proofs.magnitudes.round_unkept.Tie as tie
 
-place-in-word-requires : tie.Need-place-in-word-requires
-place-in-word-requires c κs = search needs
-
-significand-of-requires : tie.Need-significand-of-requires
-significand-of-requires c κs = search needs
-
-sub-trace-of : tie.Need-sub-trace-of
-sub-trace-of c = search needs
-
-trace-of-requires : tie.Need-trace-of-requires
-trace-of-requires c κs = search needs
-
-shl-if1 : tie.Need-shl-if1
-shl-if1 c = search needs
-
-increment-of-requires : tie.Need-increment-of-requires
-increment-of-requires c κs = search needs
-
 add-if1 : tie.Need-add-if1
 add-if1 c = search unkept-fits
 
@@ -35,12 +17,12 @@ pub round-unkept-spec : {M : Type 1} → statement M
 round-unkept-spec =
     tie.close
     (tie.spec
-    place-in-word-requires
-    significand-of-requires
-    sub-trace-of
-    trace-of-requires
-    shl-if1
-    increment-of-requires
+    (λ c κs. search needs)
+    (λ c κs. search needs)
+    (λ c. search needs)
+    (λ c κs. search needs)
+    (λ c. search needs)
+    (λ c κs. search needs)
     add-if1
     returns
     returns-2)

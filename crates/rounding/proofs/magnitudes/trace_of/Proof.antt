@@ -4,9 +4,6 @@ use Rattle.rounding.proofs.BySettings.{trace-of-nothing, trace-of-somet
 use Rattle.rounding.proofs.magnitudes.trace_of.Statement.{statement}
 use Rattle.rounding.proofs.magnitudes.trace_of.Tie as tie
 
-high-part-requires : tie.Need-high-part-requires
-high-part-requires c κs = search needs
-
 returns : tie.Need-returns
 returns c = search trace-of-nothing
 
@@ -14,4 +11,4 @@ returns-2 : tie.Need-returns-2
 returns-2 c = search trace-of-something
 
 pub trace-of-spec : {M : Type 1} → statement M
-trace-of-spec = tie.close (tie.spec high-part-requires returns returns-2)
+trace-of-spec = tie.close (tie.spec (λ c κs. search needs) returns returns-2)
