@@ -9,7 +9,17 @@ use Rattle.rounding.specs.declared.Mode.the-variants.{TiesToEven, TiesTo
 
 -- the modes by number, 0 to 8; stochastic rounding holds its count r of random bits
 abbrev pub modes : ℕ → List Mode
-modes r = TiesToEven ∷ TiesToZero ∷ TiesAway ∷ TowardZero ∷ TowardPlus ∷ TowardMinus ∷ ToOdd ∷ Stochastic r ∷ EvenChance ∷ []
+modes r =
+    TiesToEven  -- 0: nearest, ties to even
+    ∷ TiesToZero  -- 1: nearest, ties to zero
+    ∷ TiesAway  -- 2: nearest, ties away
+    ∷ TowardZero  -- 3
+    ∷ TowardPlus  -- 4
+    ∷ TowardMinus  -- 5
+    ∷ ToOdd  -- 6
+    ∷ Stochastic r  -- 7: stochastic, r bits
+    ∷ EvenChance  -- 8: stochastic, even chance
+    ∷ []
 
 -- the mode with a number; numbers above 8 are refused before it is asked for
 unfoldable pub modeOf : ℕ → ℕ → Mode
@@ -31,7 +41,7 @@ u r word = word % 2 ^ r
 
 -- Whether hi is taken, for a magnitude that lies between lo and hi, by its sign (whether it is negative), lo's m, the rest
 -- a - lo, the step G = hi - lo, and the word. hi is nearer where twice the rest is above G, and a tie is where it is G. hi's m
--- is one more than lo's, so one of the two is even and the other odd.
+-- is one more than lo's, so one of the two is even and the other odd: 0 is even, zeta is odd, xmax is odd and T is even.
 unfoldable pub takesHi : Mode → Bool → ℕ → ℕ → ℕ → ℕ → Bool
 takesHi TiesToEven negative m rest G word = ltb G (2 * rest) || eqb G (2 * rest) && odd m
 takesHi TiesToZero negative m rest G word = ltb G (2 * rest)

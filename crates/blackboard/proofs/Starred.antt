@@ -1,0 +1,17 @@
+-- The starred examples of document 01 hold: one fact over the whole table, which antt computes. Assumes nothing.
+use mathlib.Core.Bool.{true}
+use mathlib.Core.Path.{_≡_, refl}
+use lib.Ieee.{size}
+use Rattle.laws.specs.Tables.{every}
+use Rattle.grid.specs.Patterns.{sign, mag, withSign, kindOf, worth, val, pat}
+use Rattle.grid.specs.Formats.{between, precisionFits, exponentFits, emin, etop, zetaExp, stepExp, step, xmax, T}
+use Rattle.grid.specs.Neighbours.{lo, hi}
+use Rattle.rounding.specs.Modes.{modeOf, K, u, takesHi, overflows}
+use Rattle.rounding.specs.Rounded.{taken, written, goesTo, answerTo, rounded}
+use Rattle.rounding.specs.Calls.{bitsFit, refusal, roundOne}
+use Rattle.blackboard.specs.Examples.{answers, sharesAt, holds, starred}
+
+pub starred-hold : every holds starred ≡ true
+unfolding holds answers sharesAt roundOne refusal bitsFit rounded answerTo goesTo written taken overflows takesHi u K modeOf
+    lo hi T xmax step stepExp zetaExp etop emin exponentFits precisionFits between pat val worth kindOf withSign mag sign size
+starred-hold = refl

@@ -1,0 +1,19 @@
+// Runs the rounding on worked examples and writes what comes back. The whole text has to be that of
+// the file stdout, which was written by another program, from the rules of document 01 alone.
+mod answers;
+mod numbers;
+mod rows;
+mod text;
+
+fn main() {
+    numbers::formats();
+    numbers::modes();
+    answers::near_one();
+    answers::near_the_top();
+    answers::near_zeta();
+    answers::without_subnormals();
+    answers::source_subnormals();
+    answers::ends_of_the_range();
+    answers::unaltered();
+    answers::job();
+}
