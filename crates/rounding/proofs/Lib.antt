@@ -6,6 +6,7 @@ pub mod Answers
 pub mod Words
 pub mod Nearest
 pub mod Directed
+pub mod Clearing
 pub mod Agreement
 pub mod ModeTables
 pub mod Increments
