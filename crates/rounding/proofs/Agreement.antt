@@ -28,11 +28,11 @@ use Rattle.rounding.specs.Modes.{takesHi, overflows}
 use Rattle.rounding.specs.Facts.{ModeFits}
 use Rattle.rounding.specs.Rounded.{taken, written, goesTo, rounded, answerTo}
 use Rattle.rounding.specs.Increments.{increment}
-use Rattle.rounding.specs.BySettings.{settings, place, kept, trace, unkept, moved, goesToBy, roundedBy}
+use Rattle.rounding.specs.BySettings.{settings, place, kept, trace, reached, moved, goesToBy, roundedBy}
 use Rattle.rounding.proofs.Clearing.{taken-is-cleared, pattern-cleared-is-taken}
 use Rattle.rounding.proofs.Choices.{increment-below, choice-by-increment, choice-far, trace-small}
 
-module _ (f : Format) (r : InRange f) (mode : Mode) where
+module _ (f : Format) (r : InRange f) where
   -- ---- the place is the step's, counted from the significand's last digit
 
   -- a pattern's digits, by whether it is a normal number of binary64
@@ -47,42 +47,42 @@ module _ (f : Format) (r : InRange f) (mode : Mode) where
       go (inr h) = inr (h, digits-normal m h)
 
   -- in the normal range of the target
-  place-large : (m : ℕ) → emin f < digitsOf m → (place (settings f mode) m ≡ 53 - f .p) × (place (settings f mode) m + ex m ≡ stepExp f (digitsOf m))
-  unfolding place settings
+  place-large : (m : ℕ) → emin f < digitsOf m → (place (53 - f .p) (emin f) (zetaExp f) m ≡ 53 - f .p) × (place (53 - f .p) (emin f) (zetaExp f) m + ex m ≡ stepExp f (digitsOf m))
+  unfolding place
   place-large m h =
-      let cut : place (settings f mode) m ≡ 53 - f .p = ap (λ (b : Bool). cond b (53 - f .p) (zetaExp f - ex m)) (lt-ltb (emin f) (digitsOf m) h) in
+      let cut : place (53 - f .p) (emin f) (zetaExp f) m ≡ 53 - f .p = ap (λ (b : Bool). cond b (53 - f .p) (zetaExp f - ex m)) (lt-ltb (emin f) (digitsOf m) h) in
       (cut, go cut (step-normal f (digitsOf m) h) (emin-normal f r) (digit-cases m))
     where
-      go : place (settings f mode) m ≡ 53 - f .p → stepExp f (digitsOf m) ≡ digitsOf m - f .p → 52 ≤ emin f → DigitCases m
-          → place (settings f mode) m + ex m ≡ stepExp f (digitsOf m)
+      go : place (53 - f .p) (emin f) (zetaExp f) m ≡ 53 - f .p → stepExp f (digitsOf m) ≡ digitsOf m - f .p → 52 ≤ emin f → DigitCases m
+          → place (53 - f .p) (emin f) (zetaExp f) m + ex m ≡ stepExp f (digitsOf m)
       go cut own least (inl c) = omega arith
       go cut own least (inr c) = omega arith
 
   -- and below it
-  place-small : (m : ℕ) → digitsOf m ≤ emin f → (stepExp f (digitsOf m) ≡ zetaExp f) × (place (settings f mode) m + ex m ≡ stepExp f (digitsOf m))
-  unfolding place settings
+  place-small : (m : ℕ) → digitsOf m ≤ emin f → (stepExp f (digitsOf m) ≡ zetaExp f) × (place (53 - f .p) (emin f) (zetaExp f) m + ex m ≡ stepExp f (digitsOf m))
+  unfolding place
   place-small m h =
-      let cut : place (settings f mode) m ≡ zetaExp f - ex m = ap (λ (b : Bool). cond b (53 - f .p) (zetaExp f - ex m)) (le-ltb (emin f) (digitsOf m) h) in
+      let cut : place (53 - f .p) (emin f) (zetaExp f) m ≡ zetaExp f - ex m = ap (λ (b : Bool). cond b (53 - f .p) (zetaExp f - ex m)) (le-ltb (emin f) (digitsOf m) h) in
       let own = step-small f (digitsOf m) h in
       (own, go cut own (zeta-near f r) (digit-cases m))
     where
-      go : place (settings f mode) m ≡ zetaExp f - ex m → stepExp f (digitsOf m) ≡ zetaExp f → emin f < f .p + zetaExp f → DigitCases m
-          → place (settings f mode) m + ex m ≡ stepExp f (digitsOf m)
+      go : place (53 - f .p) (emin f) (zetaExp f) m ≡ zetaExp f - ex m → stepExp f (digitsOf m) ≡ zetaExp f → emin f < f .p + zetaExp f → DigitCases m
+          → place (53 - f .p) (emin f) (zetaExp f) m + ex m ≡ stepExp f (digitsOf m)
       go cut own near (inl c) = omega arith
       go cut own near (inr c) = omega arith
 
-  pub place-is-step : (m : ℕ) → place (settings f mode) m + ex m ≡ stepExp f (digitsOf m)
+  pub place-is-step : (m : ℕ) → place (53 - f .p) (emin f) (zetaExp f) m + ex m ≡ stepExp f (digitsOf m)
   place-is-step m = go (below-or-not (emin f) (digitsOf m))
     where
-      go : (emin f < digitsOf m) ⊎ (digitsOf m ≤ emin f) → place (settings f mode) m + ex m ≡ stepExp f (digitsOf m)
+      go : (emin f < digitsOf m) ⊎ (digitsOf m ≤ emin f) → place (53 - f .p) (emin f) (zetaExp f) m + ex m ≡ stepExp f (digitsOf m)
       go (inl h) = place-large m h .1
       go (inr h) = place-small m h .1
 
   -- where no digit is kept the step is zeta
-  place-unkept : (m : ℕ) → 53 ≤ place (settings f mode) m → place (settings f mode) m + ex m ≡ zetaExp f
+  place-unkept : (m : ℕ) → 53 ≤ place (53 - f .p) (emin f) (zetaExp f) m → place (53 - f .p) (emin f) (zetaExp f) m + ex m ≡ zetaExp f
   place-unkept m far = go (below-or-not (emin f) (digitsOf m))
     where
-      go : (emin f < digitsOf m) ⊎ (digitsOf m ≤ emin f) → place (settings f mode) m + ex m ≡ zetaExp f
+      go : (emin f < digitsOf m) ⊎ (digitsOf m ≤ emin f) → place (53 - f .p) (emin f) (zetaExp f) m + ex m ≡ zetaExp f
       go (inl h) = let c = place-large m h in absurd (omega arith)
       go (inr h) = let c = place-small m h in c .1 ∙ c .0
 
@@ -123,8 +123,8 @@ module _ (f : Format) (r : InRange f) (mode : Mode) (fits : ModeFits mode) (nega
   zeta-short = record { m = 1; place = zetaExp f; fits = lit< tt; is = sym (one-mul (2 ^ zetaExp f)) }
 
   unkept-value : (d : ℕ) → 53 ≤ d → d + ex m ≡ zetaExp f
-      → val (unkept (settings f mode) negative word m d) ≡ (sig m + increment mode negative (sig m / 2 ^ d) (2 ^ d) word) / 2 ^ d * 2 ^ d * 2 ^ ex m
-  unfolding unkept settings zeta
+      → val (cond (reached mode negative word m d) (pat (zeta f)) 0) ≡ (sig m + increment mode negative (sig m / 2 ^ d) (2 ^ d) word) / 2 ^ d * 2 ^ d * 2 ^ ex m
+  unfolding reached zeta
   unkept-value d far at =
       let D = 2 ^ d in
       let i = increment mode negative 0 D word in
@@ -152,19 +152,19 @@ module _ (f : Format) (r : InRange f) (mode : Mode) (fits : ModeFits mode) (nega
   moved-value = go (below-or-not d 53)
     where
       d : ℕ
-      d = place (settings f mode) m
+      d = place (53 - f .p) (emin f) (zetaExp f) m
 
       made : Bool → ℕ
-      made some = cond some (kept (settings f mode) negative word m d) (unkept (settings f mode) negative word m d)
+      made some = cond some (kept mode negative word m d) (cond (reached mode negative word m d) (pat (zeta f)) 0)
 
       go : (d < 53) ⊎ (53 ≤ d) → val (moved (settings f mode) negative word m) ≡ taken f mode negative word (val m)
       go (inl few) =
           ap (λ (b : Bool). val (made b)) (lt-ltb d 53 few)
-          ∙ pattern-cleared-is-taken f m d (place-is-step f r mode m) few mode negative word
+          ∙ pattern-cleared-is-taken f m d (place-is-step f r m) few mode negative word
       go (inr far) =
           ap (λ (b : Bool). val (made b)) (le-ltb d 53 far)
-          ∙ unkept-value d far (place-unkept f r mode m far)
-          ∙ sym (taken-is-cleared f m d (place-is-step f r mode m) mode negative word)
+          ∙ unkept-value d far (place-unkept f r m far)
+          ∙ sym (taken-is-cleared f m d (place-is-step f r m) mode negative word)
 
   -- ---- so the patterns are the same
 

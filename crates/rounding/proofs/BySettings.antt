@@ -9,45 +9,46 @@ use mir.Val.{Fits}
 use mir.Syntax.{w64}
 use lib.Dec.{leb, ltb}
 use lib.Pow.{pow-pos, pow-mono, shr-le}
-use borrow.Author.Tests.{lt-ltb, le-ltb, le-leb, lt-leb}
+use borrow.Author.Tests.{lt-ltb, le-ltb}
 use Rattle.laws.proofs.Words.{one-shifted}
 use Rattle.grid.specs.declared.Kind.{Kind}
 use Rattle.grid.specs.declared.Kind.the-variants.{Zero, Finite, Infinity, NaN}
 use Rattle.grid.specs.Patterns.{sign, mag, withSign, infinity, kindOf, ex, sig, digitsOf}
 use Rattle.grid.specs.Places.{high}
+use Rattle.rounding.specs.declared.Mode.{Mode}
 use Rattle.rounding.specs.declared.Settings.{Settings}
 use Rattle.rounding.specs.Modes.{overflows}
 use Rattle.rounding.specs.Increments.{increment}
 use Rattle.rounding.specs.Rounded.{answerTo}
-use Rattle.rounding.specs.BySettings.{place, kept, trace, unkept, moved, goesToBy, roundedBy}
+use Rattle.rounding.specs.BySettings.{place, kept, trace, reached, moved, goesToBy, roundedBy}
 use Rattle.rounding.proofs.Choices.{increment-below}
 
 -- ---- the place
 
-module _ (s : Settings) (m n : ℕ) (counted : n ≡ digitsOf m) where
-  pub place-normal : s .emin < n → s .cut ≡ place s m
+module _ (cut emin bottom m n : ℕ) (counted : n ≡ digitsOf m) where
+  pub place-normal : emin < n → cut ≡ place cut emin bottom m
   unfolding place
-  place-normal h = sym (ap (λ (b : Bool). cond b (s .cut) (s .bottom - ex m)) (ap (ltb (s .emin)) (sym counted) ∙ lt-ltb (s .emin) n h))
+  place-normal h = sym (ap (λ (b : Bool). cond b cut (bottom - ex m)) (ap (ltb emin) (sym counted) ∙ lt-ltb emin n h))
 
-  module _ (small : n ≤ s .emin) where
-    place-small : s .bottom - ex m ≡ place s m
+  module _ (small : n ≤ emin) where
+    place-small : bottom - ex m ≡ place cut emin bottom m
     unfolding place
-    place-small = sym (ap (λ (b : Bool). cond b (s .cut) (s .bottom - ex m)) (ap (ltb (s .emin)) (sym counted) ∙ le-ltb (s .emin) n small))
+    place-small = sym (ap (λ (b : Bool). cond b cut (bottom - ex m)) (ap (ltb emin) (sym counted) ∙ le-ltb emin n small))
 
     module _ (e : ℕ) (shift : e ≡ ex m) where
-      pub place-under : s .bottom - e ≡ place s m
-      place-under = ap (λ (k : ℕ). s .bottom - k) shift ∙ place-small
+      pub place-under : bottom - e ≡ place cut emin bottom m
+      place-under = ap (λ (k : ℕ). bottom - k) shift ∙ place-small
 
-      pub place-bottom : s .bottom ≤ e → 0 ≡ place s m
+      pub place-bottom : bottom ≤ e → 0 ≡ place cut emin bottom m
       place-bottom h = omega (arith, place-under)
 
 -- ---- where a digit is kept
 
-module _ (s : Settings) (negative : Bool) (word m d i n : ℕ) (below : m < 2 ^ 63) (few : d < 53) where
-  module _ (e : i ≡ increment (s .mode) negative (n / 2 ^ d) (2 ^ d) word) where
+module _ (mode : Mode) (negative : Bool) (word m d i n : ℕ) (below : m < 2 ^ 63) (few : d < 53) where
+  module _ (e : i ≡ increment mode negative (n / 2 ^ d) (2 ^ d) word) where
     sum-below : m + i < 2 ^ 64
     sum-below =
-        let small = increment-below (s .mode) negative (n / 2 ^ d) (2 ^ d) word (pow-pos d) in
+        let small = increment-below mode negative (n / 2 ^ d) (2 ^ d) word (pow-pos d) in
         let most : 2 ^ d ≤ 2 ^ 53 = pow-mono {i = d} {j = 53} (omega arith) in
         omega arith
 
@@ -55,11 +56,11 @@ module _ (s : Settings) (negative : Bool) (word m d i n : ℕ) (below : m < 2 ^ 
     pub kept-fits : Fits w64 (m + i)
     kept-fits = record { fits = sum-below }
 
-    pub kept-is : n ≡ sig m → (m + i) / 2 ^ d * 2 ^ d % 2 ^ 64 ≡ kept s negative word m d
+    pub kept-is : n ≡ sig m → (m + i) / 2 ^ d * 2 ^ d % 2 ^ 64 ≡ kept mode negative word m d
     unfolding kept high
     kept-is whole =
         mod-eq-of-lt (lt-of-le-of-lt (div-mul-le-self (m + i) (2 ^ d)) sum-below)
-        ∙ ap (λ (x : ℕ). (m + x) / 2 ^ d * 2 ^ d) (e ∙ ap (λ (x : ℕ). increment (s .mode) negative (x / 2 ^ d) (2 ^ d) word) whole)
+        ∙ ap (λ (x : ℕ). (m + x) / 2 ^ d * 2 ^ d) (e ∙ ap (λ (x : ℕ). increment mode negative (x / 2 ^ d) (2 ^ d) word) whole)
 
 -- ---- where none is kept
 
@@ -72,42 +73,40 @@ module _ (n k h : ℕ) (cut : h ≡ high n k) where
   unfolding trace
   trace-of-something z = omega arith
 
-module _ (s : Settings) (negative : Bool) (word m d c t i n : ℕ) (near : c ≡ min d 63) (whole : n ≡ sig m) (rest : t ≡ trace n (d - c))
-    (e : i ≡ increment (s .mode) negative 0 (2 ^ c) word) where
+module _ (mode : Mode) (negative : Bool) (word m d c t i n : ℕ) (near : c ≡ min d 63) (whole : n ≡ sig m) (rest : t ≡ trace n (d - c))
+    (e : i ≡ increment mode negative 0 (2 ^ c) word) where
   -- the sum fits a word
-  pub unkept-fits : Fits w64 (t + i)
+  pub reached-fits : Fits w64 (t + i)
   unfolding trace high
-  unkept-fits =
-      let small = increment-below (s .mode) negative 0 (2 ^ c) word (pow-pos c) in
+  reached-fits =
+      let small = increment-below mode negative 0 (2 ^ c) word (pow-pos c) in
       let most : 2 ^ c ≤ 2 ^ 63 = pow-mono {i = c} {j = 63} (omega arith) in
       let less : n / 2 ^ (d - c) ≤ n = shr-le n (d - c) in
       record { fits = omega arith }
 
-  reaches : leb (1 * 2 ^ c % 2 ^ 64) (t + i) ≡ leb (2 ^ min d 63) (trace (sig m) (d - min d 63) + increment (s .mode) negative 0 (2 ^ min d 63) word)
-  reaches =
+  pub reached-is : leb (1 * 2 ^ c % 2 ^ 64) (t + i) ≡ reached mode negative word m d
+  unfolding reached
+  reached-is =
       let placed : 2 ^ c ≡ 2 ^ min d 63 = ap (λ (k : ℕ). 2 ^ k) near in
       let held = ap₂ (λ (x k : ℕ). trace x (d - k)) whole near in
-      let added = ap (λ (k : ℕ). increment (s .mode) negative 0 (2 ^ k) word) near in
+      let added = ap (λ (k : ℕ). increment mode negative 0 (2 ^ k) word) near in
       ap₂ leb (one-shifted 64 c (omega arith) ∙ placed) (ap₂ (λ (x y : ℕ). x + y) (rest ∙ held) (e ∙ added))
-
-  pub unkept-reached : 1 * 2 ^ c % 2 ^ 64 ≤ t + i → s .zeta ≡ unkept s negative word m d
-  unfolding unkept
-  unkept-reached h = sym (ap (λ (b : Bool). cond b (s .zeta) 0) (sym reaches ∙ le-leb (1 * 2 ^ c % 2 ^ 64) (t + i) h))
-
-  pub unkept-missed : t + i < 1 * 2 ^ c % 2 ^ 64 → 0 ≡ unkept s negative word m d
-  unfolding unkept
-  unkept-missed h = sym (ap (λ (b : Bool). cond b (s .zeta) 0) (sym reaches ∙ lt-leb (1 * 2 ^ c % 2 ^ 64) (t + i) h))
 
 -- ---- below T, by the place
 
-module _ (s : Settings) (negative : Bool) (word m d y : ℕ) (at : d ≡ place s m) where
-  pub moved-kept : d < 53 → y ≡ kept s negative word m d → y ≡ moved s negative word m
+module _ (s : Settings) (negative : Bool) (word m d : ℕ) (at : d ≡ place (s .cut) (s .emin) (s .bottom) m) where
+  pub moved-kept : d < 53 → (y : ℕ) → y ≡ kept (s .mode) negative word m d → y ≡ moved s negative word m
   unfolding moved
-  moved-kept h e = simp (← at, lt-ltb d 53 h, e)
+  moved-kept h y e = simp (← at, lt-ltb d 53 h, e)
 
-  pub moved-unkept : 53 ≤ d → y ≡ unkept s negative word m d → y ≡ moved s negative word m
-  unfolding moved
-  moved-unkept h e = simp (← at, le-ltb d 53 h, e)
+  module _ (far : 53 ≤ d) (b : Bool) (e : b ≡ reached (s .mode) negative word m d) where
+    pub moved-to-zeta : b ≡ true → s .zeta ≡ moved s negative word m
+    unfolding moved
+    moved-to-zeta h = simp (← at, le-ltb d 53 far, ← e, h)
+
+    pub moved-to-nothing : b ≡ false → 0 ≡ moved s negative word m
+    unfolding moved
+    moved-to-nothing h = simp (← at, le-ltb d 53 far, ← e, h)
 
 -- ---- the magnitude
 

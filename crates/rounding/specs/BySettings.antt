@@ -28,13 +28,13 @@ settings f mode =
     }
 
 -- the place of the significand's last kept digit: in the normal range p digits are kept, and below it the step is zeta
-unfoldable pub place : Settings → ℕ → ℕ
-place s m = cond (ltb (s .emin) (digitsOf m)) (s .cut) (s .bottom - ex m)
+unfoldable pub place : ℕ → ℕ → ℕ → ℕ → ℕ
+place cut emin bottom m = cond (ltb emin (digitsOf m)) cut (bottom - ex m)
 
 -- Where a digit is kept, the increment is added to the pattern itself and what stands below the place is cleared; a carry
 -- out of the fraction raises the exponent by one, which is right.
-unfoldable pub kept : Settings → Bool → ℕ → ℕ → ℕ → ℕ
-kept s negative word m d = high (m + increment (s .mode) negative (high (sig m) d) (2 ^ d) word) d * 2 ^ d
+unfoldable pub kept : Mode → Bool → ℕ → ℕ → ℕ → ℕ
+kept mode negative word m d = high (m + increment mode negative (high (sig m) d) (2 ^ d) word) d * 2 ^ d
 
 -- a number moved k places down, of which at least a trace stays
 unfoldable pub trace : ℕ → ℕ → ℕ
@@ -42,16 +42,16 @@ trace n k = max 1 (high n k)
 
 -- Where none is kept lo is 0 and hi is zeta, which is taken where the rest and the increment reach the place. A place past a
 -- word's last is brought down to it, and the rest with it.
-unfoldable pub unkept : Settings → Bool → ℕ → ℕ → ℕ → ℕ
-unkept s negative word m d =
+unfoldable pub reached : Mode → Bool → ℕ → ℕ → ℕ → Bool
+reached mode negative word m d =
     let c = min d 63 in
-    cond (leb (2 ^ c) (trace (sig m) (d - c) + increment (s .mode) negative 0 (2 ^ c) word)) (s .zeta) 0
+    leb (2 ^ c) (trace (sig m) (d - c) + increment mode negative 0 (2 ^ c) word)
 
 -- below T, by the place
 unfoldable pub moved : Settings → Bool → ℕ → ℕ → ℕ
 moved s negative word m =
-    let d = place s m in
-    cond (ltb d 53) (kept s negative word m d) (unkept s negative word m d)
+    let d = place (s .cut) (s .emin) (s .bottom) m in
+    cond (ltb d 53) (kept (s .mode) negative word m d) (cond (reached (s .mode) negative word m d) (s .zeta) 0)
 
 -- the magnitude pattern that m goes to: T is written as infinity, and from T on the overflow column alone counts
 unfoldable pub goesToBy : Settings → Bool → ℕ → ℕ → ℕ

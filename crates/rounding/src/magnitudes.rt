@@ -2,7 +2,8 @@
 // last kept digit.
 ghost use mathlib.Core.Path.{_≡_};
 ghost use Prim.Native.Nat.{_^_, _<_, min};
-ghost use Rattle.rounding.specs.BySettings.{place, kept, trace, unkept, moved, goesToBy};
+ghost use Rattle.rounding.specs.BySettings.{place, kept, trace, reached, moved, goesToBy};
+use super::Mode;
 use super::Settings;
 use super::modes::increment_of;
 use super::modes::overflows_to_infinity;
@@ -16,27 +17,26 @@ const INFINITY: u64 = 0x7FF0_0000_0000_0000;
 
 // The place of the last kept digit, by where the magnitude's first digit stands: p digits are kept in
 // the normal range, and below it the step is zeta, so that each missing digit costs a place.
-pub(crate) fn place_of(s: Settings, m: u64) -> u64
-    ensures { λ y. ⌜ y ≡ place s m ⌝ }
+fn place_of(cut: u64, emin: u64, bottom: u64, m: u64) -> u64
+    ensures { λ y. ⌜ y ≡ place cut emin bottom m ⌝ }
 {
-    if s.emin < digits_of(m) {
-        return s.cut;
+    if emin < digits_of(m) {
+        return cut;
     }
     let e = exponent_of(m);
-    if e < s.bottom {
-        return s.bottom - e;
+    if e < bottom {
+        return bottom - e;
     }
     0
 }
 
 // Where a digit is kept: the increment is added to the pattern, and the digits below the place are
 // cleared. A carry out of the fraction raises the exponent by one, which is right.
-fn round_kept(s: Settings, negative: bool, word: u64, m: u64, d: u64) -> u64
+fn round_kept(mode: Mode, negative: bool, word: u64, m: u64, d: u64) -> u64
     requires { ⌜ m < 2 ^ 63 ⌝ }
     requires { ⌜ d < 53 ⌝ }
-    ensures { λ y. ⌜ y ≡ kept s negative word m d ⌝ }
+    ensures { λ y. ⌜ y ≡ kept mode negative word m d ⌝ }
 {
-    let mode = s.mode;
     let last = significand_of(m) >> d;
     let sum = m + increment_of(mode, negative, last, d, word);
     (sum >> d) << d
@@ -63,17 +63,13 @@ fn place_in_word(d: u64) -> u64
     63
 }
 
-// Where no digit is kept: zeta or nothing.
-fn round_unkept(s: Settings, negative: bool, word: u64, m: u64, d: u64) -> u64
-    ensures { λ y. ⌜ y ≡ unkept s negative word m d ⌝ }
+// Where no digit is kept: whether zeta is taken, and not zero.
+fn reaches_zeta(mode: Mode, negative: bool, word: u64, m: u64, d: u64) -> bool
+    ensures { λ y. ⌜ y ≡ reached mode negative word m d ⌝ }
 {
-    let mode = s.mode;
     let c = place_in_word(d);
     let rest = trace_of(significand_of(m), d - c);
-    if 1 << c <= rest + increment_of(mode, negative, 0, c, word) {
-        return s.zeta;
-    }
-    0
+    1 << c <= rest + increment_of(mode, negative, 0, c, word)
 }
 
 // The magnitude pattern that m goes to, which is below T: T itself may come out.
@@ -81,11 +77,15 @@ fn round_below_top(s: Settings, negative: bool, word: u64, m: u64) -> u64
     requires { ⌜ m < 2 ^ 63 ⌝ }
     ensures { λ y. ⌜ y ≡ moved s negative word m ⌝ }
 {
-    let d = place_of(s, m);
+    let mode = s.mode;
+    let d = place_of(s.cut, s.emin, s.bottom, m);
     if d < 53 {
-        return round_kept(s, negative, word, m, d);
+        return round_kept(mode, negative, word, m, d);
     }
-    round_unkept(s, negative, word, m, d)
+    if reaches_zeta(mode, negative, word, m, d) {
+        return s.zeta;
+    }
+    0
 }
 
 // The magnitude pattern that m goes to. T is written as infinity, and from T on the overflow column

@@ -1,6 +1,6 @@
 -- `rounding::magnitudes::round_below_top` meets its contract. Assumes nothing.
 use borrow.Author.Needs.{needs}
-use Rattle.rounding.proofs.BySettings.{moved-kept, moved-unkept}
+use Rattle.rounding.proofs.BySettings.{moved-kept, moved-to-zeta, moved-to-nothing}
 use Rattle.rounding.proofs.magnitudes.round_below_top.Statement.{statement}
 use Rattle.rounding.proofs.magnitudes.round_below_top.Tie as tie
 
@@ -8,9 +8,18 @@ returns : tie.Need-returns
 returns c = search moved-kept
 
 returns-2 : tie.Need-returns-2
-returns-2 c = search moved-unkept
+returns-2 c = search moved-to-zeta
+
+returns-3 : tie.Need-returns-3
+returns-3 c = search moved-to-nothing
 
 pub round-below-top-spec : {M : Type 1} → statement M
 round-below-top-spec =
     tie.close
-    (tie.spec (λ c κs. search needs) (λ c κs. search needs) returns (λ c κs. search needs) returns-2)
+    (tie.spec
+    (λ c κs. search needs)
+    (λ c κs. search needs)
+    returns
+    (λ c κs. search needs)
+    returns-2
+    returns-3)
