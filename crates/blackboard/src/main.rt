@@ -1,5 +1,5 @@
 // Runs the rounding on worked examples and writes what comes back. The whole text has to be that of
-// the file stdout, which was written by another program, from the rules of document 01 alone.
+// the file stdout, and tests/worked_examples.py holds that file to the rules of document 01.
 mod answers;
 mod numbers;
 mod rows;
