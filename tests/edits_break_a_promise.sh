@@ -1,7 +1,7 @@
 #!/usr/bin/env bash
-# Each must-fail edit has to be refused at a promise: the prover's first complaint is about a need
-# named `returns`, `returns-2`, .., and every other one is of that kind too or follows from it ("was
-# not admitted"). A complaint about a sum that may not fit, or about a proof file that no longer has
+# Each must-fail edit has to be refused at a promise: a complaint of the prover is about a need named
+# `returns`, `returns-2`, .., and every other one is of that kind too or follows from it ("was not
+# admitted"). A complaint about a sum that may not fit, or about a proof file that no longer has
 # the right needs, shows nothing about the answer. That the edited answer is wrong, and not only
 # another way to the right one, the prover cannot say: the edit's first line has to name the rule that
 # it breaks.

@@ -1,14 +1,21 @@
 #!/usr/bin/env bash
 # docs/PROMISES.md has a row for every function that another crate can call, with that function's
-# uniqueness fact and at least two wrong answers that it rules out; it lists every must-fail edit;
-# and it names no function, fact, law, file or edit that is not there.
+# uniqueness fact and at least two wrong answers that it rules out, each an edit of that function's
+# crate; it lists every must-fail edit; a fact's row names the file that its laws are in; and the page
+# names no function, fact, law, file or edit that is not there. Whether a fact is missing from the page
+# it cannot tell.
 set -euo pipefail
 unset CDPATH
 cd "$(dirname "$0")/.."
 
 page=docs/PROMISES.md
-named=$(grep -o '`[^` ]*`' "$page" | tr -d '`' | sort -u)
-rows=$(grep -E '^\| `[a-z0-9_]+` \|' "$page")
+named=$(grep -o '`[^` ]*`' "$page" | tr -d '`' | sort -u || true)
+rows=$(grep -E '^\| `[a-z0-9_]+` \|' "$page" || true)
+facts=$(grep -E '^\| .* \| `[^|]*` \| `crates/[^|]*` \|$' "$page" || true)
+if [ -z "$rows" ] || [ -z "$facts" ]; then
+    echo "$page: it has no row of a function, or none of a fact" >&2
+    exit 1
+fi
 wrong=0
 
 complain() {
@@ -16,14 +23,33 @@ complain() {
     wrong=$((wrong + 1))
 }
 
+# the names in back-ticks
+quoted() {
+    grep -o '`[^`]*`' <<<"$1" | tr -d '`' || true
+}
+
 # a row: function | refuses | answer | definition | unique | ruled out
 while IFS='|' read -r _ function _ _ _ unique ruled_out _; do
     function=$(tr -d '` ' <<<"$function")
     [ "$(tr -d '` ' <<<"$unique")" = "${function//_/-}-unique" ] ||
         complain "the row of $function names another uniqueness fact"
-    [ "$(grep -o '`[^`]*`' <<<"$ruled_out" | sort -u | wc -l)" -ge 2 ] ||
+    [ "$(quoted "$ruled_out" | sort -u | wc -l)" -ge 2 ] ||
         complain "the row of $function rules out fewer than two wrong answers"
+    crate=$(grep -rlE "^ *pub (extern \"C\" )?fn $function\(" crates/*/src | cut -d / -f 2)
+    for edit in $(quoted "$ruled_out"); do
+        [ -e "crates/$crate/must-fail/$edit.edit" ] ||
+            complain "the row of $function names $edit, which is no edit of the crate ${crate:-?}"
+    done
 done <<<"$rows"
+
+# a fact: what holds | for | law | file
+while IFS='|' read -r _ _ _ laws files _; do
+    for law in $(quoted "$laws"); do
+        # shellcheck disable=SC2046
+        grep -qE -- "^ *(pub )?$law :" $(quoted "$files") /dev/null ||
+            complain "$law is not in$(quoted "$files" | sed 's/^/ /' | tr -d '\n')"
+    done
+done <<<"$facts"
 
 functions=0
 while read -r name; do
@@ -47,5 +73,5 @@ while read -r name; do
     complain "$name is named, and nothing of that name is there"
 done <<<"$named"
 
-echo "promises listed: $functions functions, $edits edits, $wrong complaints"
+echo "promises listed: $functions functions, $edits edits, $(grep -c . <<<"$facts") facts, $wrong complaints"
 [ "$functions" -gt 0 ] && [ "$edits" -gt 0 ] && [ "$wrong" -eq 0 ]

@@ -91,8 +91,8 @@ def refusal(p, emax, mode, r):
 def due(line):
     """The answers that belong on a line behind its y=, or nothing if the line is none of the program's."""
     call = re.fullmatch(r'p=(\d+) emax=(\d+) mode=(\d+) r=(\d+) number=(\d+) y=.*', line)
-    draw = re.fullmatch(r'p=(\d+) emax=(\d+) sub=([01]) r=(\d+) w=([0-9A-F]{16}) x=([0-9A-F]{16}) y=.*', line)
-    row = re.fullmatch(r'p=(\d+) emax=(\d+) sub=([01]) x=([0-9A-F]{16}) y=.*', line)
+    draw = re.fullmatch(r'p=(\d+) emax=(\d+) sub=([01]) r=(\d+) w=([0-9a-f]{16}) x=([0-9a-f]{16}) y=.*', line)
+    row = re.fullmatch(r'p=(\d+) emax=(\d+) sub=([01]) x=([0-9a-f]{16}) y=.*', line)
     if call:
         # half a step above 1 in binary16, with subnormals and word 0
         p, emax, mode, r, number = map(int, call.groups())
@@ -119,7 +119,7 @@ def main():
         sys.exit('worked_examples.py: %s' % fault)
     answers = wrong = 0
     for number, line in enumerate(lines, 1):
-        there, right = line.partition('y=')[2].split(), ['%016X' % y for y in due(line)]
+        there, right = line.partition('y=')[2].split(), ['%016x' % y for y in due(line)]
         answers += len(right)
         if not right or there != right:
             wrong += 1

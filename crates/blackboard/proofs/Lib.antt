@@ -1,3 +1,2 @@
--- That the starred examples hold, and the laws that the program's proofs cite.
-pub mod Digits
+-- That the starred examples hold.
 pub mod Starred

@@ -44,8 +44,8 @@ pub(crate) fn near_the_top() {
     print_answers(f, 0xFFEF_FFFF_FFFF_FFFF);
 }
 
-// Below binary16's normal range: half of zeta, one and a half times zeta, and half a zeta below the
-// smallest normal number.
+// Below binary16's normal range: the smallest input of all, half of zeta, one and a half and two and a
+// half times zeta, and half a zeta below the smallest normal number.
 pub(crate) fn near_zeta() {
     let f = binary16();
     print_answers(f, 0x0000_0000_0000_0001);

@@ -4,7 +4,7 @@ use super::rows::print_call;
 // The last 64-bit number.
 const LAST: u64 = 0xFFFF_FFFF_FFFF_FFFF;
 
-// p and emax, at the ends of their ranges and just outside.
+// p and emax, at the ends of their ranges and outside.
 pub(crate) fn formats() {
     print_call(2, 15, 0, 0);
     print_call(53, 15, 0, 0);

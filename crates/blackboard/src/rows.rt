@@ -20,7 +20,7 @@ fn print_format(format: Format) {
     print_number(b" sub=", setting(format.sub));
 }
 
-// Writes the number and the pattern of a call.
+// Writes the settings of a call, its number and its pattern.
 pub(crate) fn print_call(p: u64, emax: u64, mode: u64, r: u64) {
     let answer = round_one(Format { p, emax, sub: true }, mode, r, 0, TIE);
     print_number(b"p=", p);

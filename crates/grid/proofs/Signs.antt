@@ -8,7 +8,7 @@ use native.Mathlib.Omega.{arith}
 use lib.Dec.{leb}
 use borrow.Author.Tests.{le-leb, lt-leb}
 use Rattle.laws.proofs.Orders.{below-or-not}
-use Rattle.grid.specs.Patterns.{sign, mag, withSign}
+use Rattle.grid.specs.Patterns.{sign, mag, withSign, infinity}
 
 -- where the sign bit is set it is 2^63, and where not it is nothing
 with-negative : (x m : ℕ) → 2 ^ 63 ≤ x → withSign x m ≡ 2 ^ 63 + mag m
@@ -50,11 +50,12 @@ sign-with-sign x m = go (below-or-not x (2 ^ 63))
     go (inl h) = lt-leb (2 ^ 63) (withSign x m) (omega (arith, with-positive x m h)) ∙ sym (lt-leb (2 ^ 63) x h)
     go (inr h) = le-leb (2 ^ 63) (withSign x m) (omega (arith, with-negative x m h)) ∙ sym (le-leb (2 ^ 63) x h)
 
--- what was put together is a word
-pub with-sign-fits : (x m : ℕ) → withSign x m < 2 ^ 64
+-- a magnitude leaves the sign bit free
+pub magnitude-below : (x m : ℕ) → m ≡ mag x → m < 2 ^ 63
 unfolding mag
-with-sign-fits x m = go (below-or-not x (2 ^ 63))
-  where
-    go : (x < 2 ^ 63) ⊎ (2 ^ 63 ≤ x) → withSign x m < 2 ^ 64
-    go (inl h) = omega (arith, with-positive x m h)
-    go (inr h) = omega (arith, with-negative x m h)
+magnitude-below x m e = omega arith
+
+-- a pattern not above infinity's is its own magnitude
+pub magnitude-is : (m : ℕ) → m ≤ infinity → mag m ≡ m
+unfolding mag
+magnitude-is m most = omega arith

@@ -207,10 +207,21 @@ pub digits-subnormal : (m : ℕ) → m < 2 ^ 52 → size m ≡ digitsOf m
 unfolding digitsOf
 digits-subnormal m h = ap size (sym (val-small m (omega arith)))
 
+-- there is no third case
+abbrev pub DigitCases : ℕ → Type 0
+DigitCases m = ((m < 2 ^ 52) × (digitsOf m ≤ 52)) ⊎ ((2 ^ 52 ≤ m) × (m / 2 ^ 52 + 52 ≡ digitsOf m))
+
+pub digit-cases : (m : ℕ) → DigitCases m
+digit-cases m = go (below-or-not m (2 ^ 52))
+  where
+    go : (m < 2 ^ 52) ⊎ (2 ^ 52 ≤ m) → DigitCases m
+    go (inl h) = inl (h, subst (λ (n : ℕ). n ≤ 52) (digits-subnormal m h) (size-le m 52 h))
+    go (inr h) = inr (h, digits-normal m h)
+
 -- ---- orders that let two be equal
 
 -- what is worth no more is a pattern no larger
-pub val-not-above : (m n : ℕ) → val m ≤ val n → m ≤ n
+val-not-above : (m n : ℕ) → val m ≤ val n → m ≤ n
 val-not-above m n h = le-of-not-lt (λ (g : n < m). not-le-of-lt (val-increasing n m g) h)
 
 -- the pattern of a short number that is at most a pattern's value is at most that pattern,

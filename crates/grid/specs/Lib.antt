@@ -3,9 +3,11 @@
 --
 -- How to read these files. ℕ are the whole numbers from 0, `zero` or `suc n`, which is n + 1; `-` stops at 0, and `/` and `%`
 -- are quotient and remainder. `≡` is equality.
--- `leb`, `ltb` and `eqb` test ≤, < and =; `cond t x y` is x where the test t holds and y where not; `size n` counts the binary
--- digits of n. `f .p` is the field p of f. A `record` holds where all its fields do, and a `data` where one of its lines does.
--- `Format` and `Kind` are declared in src/lib.rt. `unfoldable`, `abbrev` and `pub` say only who may look into a definition.
+-- `leb`, `ltb` and `eqb` test ≤, < and =; `not`, `&&` and `||` are not, and, or; `cond t x y` is x where the test t holds and y
+-- where not; `size n` counts the binary digits of n. `x ∷ y ∷ []` is a list, and `getD l n d` its entry with the number n,
+-- counted from 0, or d past its end. `f .p` is the field p of f. A `record` holds where all its fields do, and a `data` where
+-- one of its lines does. `Format` and `Kind` are declared in src/lib.rt. `unfoldable`, `abbrev` and `pub` say only who may look
+-- into a definition.
 pub mod Patterns
 pub mod Places
 pub mod Formats

@@ -3,7 +3,7 @@ use mathlib.Core.Bool.{Bool, cond}
 use mathlib.Core.Path.{_≡_, sym, ap, _∙_, subst}
 use mathlib.Core.Logic.{_⊎_, inl, inr}
 use Prim.Native.Nat.{ℕ, suc, _+_, _-_, _*_, _/_, _%_, _^_, _≤_, _<_, zero-le}
-use native.Mathlib.Nat.{add-mul, suc-mul, mul-le-mul-right, lt-of-mul-lt-mul-right, mul-assoc, one-mul, zero-mul, sub-add-cancel, div-eq-of-lt, div-eq-of-lt-le, div-mul-cancel, div-mul-le-self, lt-div-mul-add, div-add-mod', dvd-mul-left, le-div-iff-mul-le, lt-of-le-of-lt, mod-lt}
+use native.Mathlib.Nat.{add-mul, mul-add-div-right, suc-mul, mul-le-mul-right, lt-of-mul-lt-mul-right, mul-assoc, one-mul, zero-mul, sub-add-cancel, div-eq-of-lt, div-eq-of-lt-le, div-mul-cancel, div-mul-le-self, div-add-mod', dvd-mul-left, le-div-iff-mul-le, lt-of-le-of-lt, mod-lt}
 use native.Mathlib.Omega.{arith}
 use lib.Dec.{leb}
 use lib.Pow.{pow-add, pow-pos, suc-ones}
@@ -64,10 +64,8 @@ clears-past i j q n h =
     let d = 2 ^ i in
     let b = q * 2 ^ j / d in
     let whole : b * d ≡ q * 2 ^ j = zeros-whole q i j h in
-    let split : (b + n / d) * d ≡ b * d + n / d * d = add-mul b (n / d) d in
-    let least : n / d * d ≤ n = div-mul-le-self n d in
-    let below : n < n / d * d + d = lt-div-mul-add (pow-pos i) in
-    ap (λ (x : ℕ). x * d) (multiples-in d (b + n / d) (q * 2 ^ j + n) (omega arith) (omega arith)) ∙ split ∙ ap (λ (x : ℕ). x + n / d * d) whole
+    ap (λ (x : ℕ). (x + n) / d * d) (sym whole) ∙ ap (λ (x : ℕ). x * d) (mul-add-div-right (pow-pos i) b n) ∙ add-mul b (n / d) d
+    ∙ ap (λ (x : ℕ). x + n / d * d) whole
 
 -- a power that a number reaches, its multiples reach
 pub clears-least : (i j n : ℕ) → i ≤ j → 2 ^ j ≤ n → 2 ^ j ≤ n / 2 ^ i * 2 ^ i

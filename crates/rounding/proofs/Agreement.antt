@@ -2,14 +2,13 @@
 -- laws of Clearing.antt carry it; here the place is found to be the step's, and what is left are the inputs of which no digit
 -- is kept. Assumes nothing.
 use mathlib.Core.Bool.{Bool, true, false, cond}
-use mathlib.Core.Path.{_≡_, refl, sym, ap, ap₂, _∙_, subst}
+use mathlib.Core.Path.{_≡_, refl, sym, ap, ap₂, _∙_}
 use mathlib.Core.Logic.{_⊎_, inl, inr}
 use Prim.Native.Nat.{ℕ, _+_, _-_, _*_, _/_, _%_, _^_, _≤_, _<_, min}
-use native.Mathlib.Nat.{zero-mul, zero-add, one-mul, div-eq-of-lt, mod-eq-of-lt}
+use native.Mathlib.Nat.{zero-mul, zero-add, div-eq-of-lt, mod-eq-of-lt}
 use native.Mathlib.Omega.{arith}
 use lib.Dec.{leb, ltb, lit<}
 use lib.Pow.{pow-add, pow-pos, pow-mono}
-use lib.Ieee.Digits.{size-le}
 use borrow.Author.Tests.{lt-ltb, le-ltb}
 use Rattle.laws.proofs.Multiples.{clears-carry}
 use Rattle.laws.proofs.Orders.{below-or-not}
@@ -19,9 +18,10 @@ use Rattle.grid.specs.declared.Kind.the-variants.{Zero, Finite, Infinity, NaN}
 use Rattle.grid.specs.Patterns.{sign, mag, withSign, infinity, kindOf, val, ex, sig, digitsOf, pat, Short}
 use Rattle.grid.specs.Places.{high}
 use Rattle.grid.specs.Formats.{InRange, emin, zetaExp, zeta, stepExp, xmax, T}
-use Rattle.grid.proofs.Values.{val-small, val-pat, pat-val, pattern-below, digits-normal, digits-subnormal}
+use Rattle.grid.proofs.Values.{val-small, val-pat, pat-val, pattern-below, DigitCases, digit-cases}
 use Rattle.grid.proofs.PatternKinds.{finite-positive}
-use Rattle.grid.proofs.Candidates.{top-short}
+use Rattle.grid.proofs.Candidates.{candidate-short, top-short}
+use Rattle.grid.proofs.Ends.{zeta-is-hi}
 use Rattle.grid.proofs.Steps.{step-normal, step-small, emin-normal, zeta-near}
 use Rattle.rounding.specs.declared.Mode.{Mode}
 use Rattle.rounding.specs.Modes.{takesHi, overflows}
@@ -29,60 +29,50 @@ use Rattle.rounding.specs.Facts.{ModeFits}
 use Rattle.rounding.specs.Rounded.{taken, written, goesTo, rounded, answerTo}
 use Rattle.rounding.specs.Increments.{increment}
 use Rattle.rounding.specs.BySettings.{settings, place, kept, trace, reached, moved, goesToBy, roundedBy}
+use Rattle.rounding.proofs.BySettings.{place-normal, place-below-normal}
 use Rattle.rounding.proofs.Clearing.{taken-is-cleared, pattern-cleared-is-taken}
 use Rattle.rounding.proofs.Choices.{increment-below, choice-by-increment, choice-far, trace-small}
 
 module _ (f : Format) (r : InRange f) where
   -- ---- the place is the step's, counted from the significand's last digit
 
-  -- a pattern's digits, by whether it is a normal number of binary64
-  abbrev DigitCases : ℕ → Type 0
-  DigitCases m = ((m < 2 ^ 52) × (digitsOf m ≤ 52)) ⊎ ((2 ^ 52 ≤ m) × (m / 2 ^ 52 + 52 ≡ digitsOf m))
-
-  digit-cases : (m : ℕ) → DigitCases m
-  digit-cases m = go (below-or-not m (2 ^ 52))
-    where
-      go : (m < 2 ^ 52) ⊎ (2 ^ 52 ≤ m) → DigitCases m
-      go (inl h) = inl (h, subst (λ (n : ℕ). n ≤ 52) (digits-subnormal m h) (size-le m 52 h))
-      go (inr h) = inr (h, digits-normal m h)
+  -- the place that a format's settings give
+  abbrev placeOf : ℕ → ℕ
+  placeOf m = place (53 - f .p) (emin f) (zetaExp f) m
 
   -- in the normal range of the target
-  place-large : (m : ℕ) → emin f < digitsOf m → (place (53 - f .p) (emin f) (zetaExp f) m ≡ 53 - f .p) × (place (53 - f .p) (emin f) (zetaExp f) m + ex m ≡ stepExp f (digitsOf m))
-  unfolding place
+  place-large : (m : ℕ) → emin f < digitsOf m → (placeOf m ≡ 53 - f .p) × (placeOf m + ex m ≡ stepExp f (digitsOf m))
   place-large m h =
-      let cut : place (53 - f .p) (emin f) (zetaExp f) m ≡ 53 - f .p = ap (λ (b : Bool). cond b (53 - f .p) (zetaExp f - ex m)) (lt-ltb (emin f) (digitsOf m) h) in
+      let cut : placeOf m ≡ 53 - f .p = sym (place-normal (53 - f .p) (emin f) (zetaExp f) m (digitsOf m) refl h) in
       (cut, go cut (step-normal f (digitsOf m) h) (emin-normal f r) (digit-cases m))
     where
-      go : place (53 - f .p) (emin f) (zetaExp f) m ≡ 53 - f .p → stepExp f (digitsOf m) ≡ digitsOf m - f .p → 52 ≤ emin f → DigitCases m
-          → place (53 - f .p) (emin f) (zetaExp f) m + ex m ≡ stepExp f (digitsOf m)
+      go : placeOf m ≡ 53 - f .p → stepExp f (digitsOf m) ≡ digitsOf m - f .p → 52 ≤ emin f → DigitCases m → placeOf m + ex m ≡ stepExp f (digitsOf m)
       go cut own least (inl c) = omega arith
       go cut own least (inr c) = omega arith
 
   -- and below it
-  place-small : (m : ℕ) → digitsOf m ≤ emin f → (stepExp f (digitsOf m) ≡ zetaExp f) × (place (53 - f .p) (emin f) (zetaExp f) m + ex m ≡ stepExp f (digitsOf m))
-  unfolding place
+  place-small : (m : ℕ) → digitsOf m ≤ emin f → (stepExp f (digitsOf m) ≡ zetaExp f) × (placeOf m + ex m ≡ stepExp f (digitsOf m))
   place-small m h =
-      let cut : place (53 - f .p) (emin f) (zetaExp f) m ≡ zetaExp f - ex m = ap (λ (b : Bool). cond b (53 - f .p) (zetaExp f - ex m)) (le-ltb (emin f) (digitsOf m) h) in
+      let cut : placeOf m ≡ zetaExp f - ex m = sym (place-below-normal (53 - f .p) (emin f) (zetaExp f) m (digitsOf m) refl h) in
       let own = step-small f (digitsOf m) h in
       (own, go cut own (zeta-near f r) (digit-cases m))
     where
-      go : place (53 - f .p) (emin f) (zetaExp f) m ≡ zetaExp f - ex m → stepExp f (digitsOf m) ≡ zetaExp f → emin f < f .p + zetaExp f → DigitCases m
-          → place (53 - f .p) (emin f) (zetaExp f) m + ex m ≡ stepExp f (digitsOf m)
+      go : placeOf m ≡ zetaExp f - ex m → stepExp f (digitsOf m) ≡ zetaExp f → emin f < f .p + zetaExp f → DigitCases m → placeOf m + ex m ≡ stepExp f (digitsOf m)
       go cut own near (inl c) = omega arith
       go cut own near (inr c) = omega arith
 
-  pub place-is-step : (m : ℕ) → place (53 - f .p) (emin f) (zetaExp f) m + ex m ≡ stepExp f (digitsOf m)
+  place-is-step : (m : ℕ) → placeOf m + ex m ≡ stepExp f (digitsOf m)
   place-is-step m = go (below-or-not (emin f) (digitsOf m))
     where
-      go : (emin f < digitsOf m) ⊎ (digitsOf m ≤ emin f) → place (53 - f .p) (emin f) (zetaExp f) m + ex m ≡ stepExp f (digitsOf m)
+      go : (emin f < digitsOf m) ⊎ (digitsOf m ≤ emin f) → placeOf m + ex m ≡ stepExp f (digitsOf m)
       go (inl h) = place-large m h .1
       go (inr h) = place-small m h .1
 
   -- where no digit is kept the step is zeta
-  place-unkept : (m : ℕ) → 53 ≤ place (53 - f .p) (emin f) (zetaExp f) m → place (53 - f .p) (emin f) (zetaExp f) m + ex m ≡ zetaExp f
+  place-unkept : (m : ℕ) → 53 ≤ placeOf m → placeOf m + ex m ≡ zetaExp f
   place-unkept m far = go (below-or-not (emin f) (digitsOf m))
     where
-      go : (emin f < digitsOf m) ⊎ (digitsOf m ≤ emin f) → place (53 - f .p) (emin f) (zetaExp f) m + ex m ≡ zetaExp f
+      go : (emin f < digitsOf m) ⊎ (digitsOf m ≤ emin f) → placeOf m + ex m ≡ zetaExp f
       go (inl h) = let c = place-large m h in absurd (omega arith)
       go (inr h) = let c = place-small m h in c .1 ∙ c .0
 
@@ -119,8 +109,7 @@ module _ (mode : Mode) (fits : ModeFits mode) (negative : Bool) (word n d : ℕ)
 
 module _ (f : Format) (r : InRange f) (mode : Mode) (fits : ModeFits mode) (negative : Bool) (word m : ℕ) (some : 0 < m) where
   zeta-short : Short (zeta f)
-  unfolding zeta
-  zeta-short = record { m = 1; place = zetaExp f; fits = lit< tt; is = sym (one-mul (2 ^ zetaExp f)) }
+  zeta-short = candidate-short f r (zeta f) (zeta-is-hi f r .among)
 
   unkept-value : (d : ℕ) → 53 ≤ d → d + ex m ≡ zetaExp f
       → val (cond (reached mode negative word m d) (pat (zeta f)) 0) ≡ (sig m + increment mode negative (sig m / 2 ^ d) (2 ^ d) word) / 2 ^ d * 2 ^ d * 2 ^ ex m
@@ -147,7 +136,7 @@ module _ (f : Format) (r : InRange f) (mode : Mode) (fits : ModeFits mode) (nega
 
   -- ---- below T what is made is worth the candidate taken
 
-  pub moved-value : val (moved (settings f mode) negative word m) ≡ taken f mode negative word (val m)
+  moved-value : val (moved (settings f mode) negative word m) ≡ taken f mode negative word (val m)
   unfolding moved kept settings high
   moved-value = go (below-or-not d 53)
     where
@@ -168,7 +157,7 @@ module _ (f : Format) (r : InRange f) (mode : Mode) (fits : ModeFits mode) (nega
 
   -- ---- so the patterns are the same
 
-  pub goes-to-by-settings : goesToBy (settings f mode) negative word m ≡ goesTo f mode negative word (val m)
+  goes-to-by-settings : goesToBy (settings f mode) negative word m ≡ goesTo f mode negative word (val m)
   unfolding goesToBy settings goesTo written
   goes-to-by-settings =
       let y = moved (settings f mode) negative word m in

@@ -3,19 +3,19 @@
 use mathlib.Core.Bool.{Bool, true, false, cond}
 use mathlib.Core.Path.{_≡_, refl, sym, ap, _∙_, subst}
 use mathlib.Core.Logic.{_⊎_, inl, inr}
-use Prim.Native.Nat.{ℕ, _+_, _-_, _/_, _^_, _≤_, _<_}
-use native.Mathlib.Nat.{sub-self, mod-eq-of-lt, lt-irrefl, lt-of-le-of-lt, eq-or-lt-of-le}
-use lib.Dec.{leb, lit<}
+use Prim.Native.Nat.{ℕ, _+_, _-_, _/_, _^_, _<_}
+use native.Mathlib.Nat.{sub-self, lt-irrefl, eq-or-lt-of-le}
+use lib.Dec.{leb}
 use Rattle.grid.specs.declared.Format.{Format}
 use Rattle.grid.specs.declared.Kind.{Kind}
 use Rattle.grid.specs.declared.Kind.the-variants.{Zero, Finite, Infinity, NaN}
-use Rattle.grid.specs.Patterns.{sign, mag, withSign, infinity, kindOf, val}
+use Rattle.grid.specs.Patterns.{sign, mag, withSign, kindOf, val}
 use Rattle.grid.specs.Formats.{InRange, step, T}
 use Rattle.grid.specs.Candidates.{Candidate}
 use Rattle.grid.specs.Neighbours.{lo, hi}
 use Rattle.grid.proofs.Values.{pat-val}
 use Rattle.grid.proofs.PatternKinds.{finite-or-not}
-use Rattle.grid.proofs.Signs.{with-own-sign, magnitude-with-sign, sign-with-sign, with-sign-fits}
+use Rattle.grid.proofs.Signs.{with-own-sign, magnitude-with-sign, sign-with-sign, magnitude-is}
 use Rattle.grid.proofs.Candidates.{candidate-whole}
 use Rattle.grid.proofs.Neighbours.{lo-not-above, lo-candidate, hi-candidate}
 use Rattle.rounding.specs.declared.Mode.{Mode}
@@ -25,11 +25,6 @@ use Rattle.rounding.specs.Rounded.{taken, written, goesTo, answerTo, rou
 use Rattle.rounding.proofs.Choices.{stochastic-exact}
 use Rattle.rounding.proofs.Destinations.{below-written, exact-taken, choice-taken, below-goes, written-most, written-apart, goes-to-candidate, goes-most}
 
--- a pattern not above infinity's has no sign
-magnitude-is : (m : ℕ) → m ≤ infinity → mag m ≡ m
-unfolding mag
-magnitude-is m most = mod-eq-of-lt (lt-of-le-of-lt most (lit< tt))
-
 module _ (f : Format) (mode : Mode) (word x : ℕ) where
   -- ---- by what the pattern is
 
@@ -38,15 +33,15 @@ module _ (f : Format) (mode : Mode) (word x : ℕ) where
   by-kind k kind = ap (λ (t : Kind). answerTo t x (goesTo f mode (sign x) word (val (mag x)))) kind
 
   -- zeros, infinities and NaNs come back unaltered
-  pub zero-comes-back : kindOf x ≡ Zero → rounded f mode word x ≡ x
+  zero-comes-back : kindOf x ≡ Zero → rounded f mode word x ≡ x
   unfolding answerTo
   zero-comes-back = by-kind Zero
 
-  pub infinity-comes-back : kindOf x ≡ Infinity → rounded f mode word x ≡ x
+  infinity-comes-back : kindOf x ≡ Infinity → rounded f mode word x ≡ x
   unfolding answerTo
   infinity-comes-back = by-kind Infinity
 
-  pub nan-comes-back : kindOf x ≡ NaN → rounded f mode word x ≡ x
+  nan-comes-back : kindOf x ≡ NaN → rounded f mode word x ≡ x
   unfolding answerTo
   nan-comes-back = by-kind NaN
 
@@ -72,14 +67,6 @@ module _ (f : Format) (mode : Mode) (word x : ℕ) where
       go : (kindOf x ≡ Finite) ⊎ (kindOf x ≡ Finite → ⊥) → sign (rounded f mode word x) ≡ sign x
       go (inl finite) = ap sign (finite-answer finite) ∙ sign-with-sign x (goesTo f mode (sign x) word (val (mag x)))
       go (inr special) = ap sign (specials-come-back special)
-
-  -- and is a word, as the input is
-  pub answer-fits : x < 2 ^ 64 → rounded f mode word x < 2 ^ 64
-  answer-fits fits = go (finite-or-not x)
-    where
-      go : (kindOf x ≡ Finite) ⊎ (kindOf x ≡ Finite → ⊥) → rounded f mode word x < 2 ^ 64
-      go (inl finite) = subst (λ (y : ℕ). y < 2 ^ 64) (sym (finite-answer finite)) (with-sign-fits x (goesTo f mode (sign x) word (val (mag x))))
-      go (inr special) = subst (λ (y : ℕ). y < 2 ^ 64) (sym (specials-come-back special)) fits
 
   module _ (r : InRange f) where
     -- ---- numbers of the format

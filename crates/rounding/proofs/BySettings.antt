@@ -31,13 +31,13 @@ module _ (cut emin bottom m n : ℕ) (counted : n ≡ digitsOf m) where
   place-normal h = sym (ap (λ (b : Bool). cond b cut (bottom - ex m)) (ap (ltb emin) (sym counted) ∙ lt-ltb emin n h))
 
   module _ (small : n ≤ emin) where
-    place-small : bottom - ex m ≡ place cut emin bottom m
+    pub place-below-normal : bottom - ex m ≡ place cut emin bottom m
     unfolding place
-    place-small = sym (ap (λ (b : Bool). cond b cut (bottom - ex m)) (ap (ltb emin) (sym counted) ∙ le-ltb emin n small))
+    place-below-normal = sym (ap (λ (b : Bool). cond b cut (bottom - ex m)) (ap (ltb emin) (sym counted) ∙ le-ltb emin n small))
 
     module _ (e : ℕ) (shift : e ≡ ex m) where
       pub place-under : bottom - e ≡ place cut emin bottom m
-      place-under = ap (λ (k : ℕ). bottom - k) shift ∙ place-small
+      place-under = ap (λ (k : ℕ). bottom - k) shift ∙ place-below-normal
 
       pub place-bottom : bottom ≤ e → 0 ≡ place cut emin bottom m
       place-bottom h = omega (arith, place-under)
@@ -147,8 +147,3 @@ module _ (s : Settings) (word x : ℕ) (k : Kind) (e : k ≡ kindOf x) where
   pub finite-rounded : k ≡ Finite → (b : Bool) → b ≡ sign x → (m : ℕ) → m ≡ mag x → (y : ℕ) → y ≡ goesToBy s b word m → (z : ℕ) → z ≡ withSign x y → z ≡ roundedBy s word x
   unfolding roundedBy answerTo
   finite-rounded is b signed m same y goes z put = simp (← e, is, put, goes, signed, same)
-
--- a magnitude leaves the sign bit free
-pub magnitude-below : (x m : ℕ) → m ≡ mag x → m < 2 ^ 63
-unfolding mag
-magnitude-below x m e = omega arith

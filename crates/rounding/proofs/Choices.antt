@@ -27,7 +27,7 @@ all-or-nothing-below true D h = omega arith
 all-or-nothing-below false D h = h
 
 -- u is one of 2^r numbers
-u-below : (r word : ℕ) → u r word < 2 ^ r
+pub u-below : (r word : ℕ) → u r word < 2 ^ r
 unfolding u
 u-below r word = mod-lt word (pow-pos r)
 
@@ -53,7 +53,7 @@ all-or-nothing-reaches false rest D some below = sym (lt-leb D (rest + 0) (omega
 -- with half a step less one, and one more where m is odd, a rest reaches the step where ties to even takes hi
 even-reaches :
     (m rest half : ℕ) → 0 < half
-    → (ltb (2 * half) (2 * rest) || eqb (2 * half) (2 * rest) && odd m) ≡ leb (2 * half) (rest + (half - 1 + m % 2))
+    → (ltb (2 * half) (2 * rest) || (eqb (2 * half) (2 * rest) && odd m)) ≡ leb (2 * half) (rest + (half - 1 + m % 2))
 even-reaches m rest half some = go (below-or-not (2 * half) (2 * rest))
   where
     reached : Bool
@@ -74,9 +74,9 @@ even-reaches m rest half some = go (below-or-not (2 * half) (2 * rest))
     not-past (inr h) =
         ap (λ (t : Bool). t && odd m) (ne-eqb (2 * half) (2 * rest) (λ (e : 2 * half ≡ 2 * rest). omega arith)) ∙ is-not (omega arith)
 
-    go : (2 * half < 2 * rest) ⊎ (2 * rest ≤ 2 * half) → (ltb (2 * half) (2 * rest) || eqb (2 * half) (2 * rest) && odd m) ≡ reached
-    go (inl h) = ap (λ (t : Bool). t || eqb (2 * half) (2 * rest) && odd m) (lt-ltb (2 * half) (2 * rest) h) ∙ is-reached (omega arith)
-    go (inr h) = ap (λ (t : Bool). t || eqb (2 * half) (2 * rest) && odd m) (le-ltb (2 * half) (2 * rest) h) ∙ not-past (eq-or-lt-of-le h)
+    go : (2 * half < 2 * rest) ⊎ (2 * rest ≤ 2 * half) → (ltb (2 * half) (2 * rest) || (eqb (2 * half) (2 * rest) && odd m)) ≡ reached
+    go (inl h) = ap (λ (t : Bool). t || (eqb (2 * half) (2 * rest) && odd m)) (lt-ltb (2 * half) (2 * rest) h) ∙ is-reached (omega arith)
+    go (inr h) = ap (λ (t : Bool). t || (eqb (2 * half) (2 * rest) && odd m)) (le-ltb (2 * half) (2 * rest) h) ∙ not-past (eq-or-lt-of-le h)
 
 -- which is ties to even's increment there
 even-increment : (m half : ℕ) → 0 < half → ((2 * half - 1) / 2 + m % 2) % (2 * half) ≡ half - 1 + m % 2
@@ -148,8 +148,8 @@ pub choice-scales :
     → takesHi mode negative m (rest * c) (step * c) word ≡ takesHi mode negative m rest step word
 unfolding takesHi K
 choice-scales TiesToEven negative m rest step c word some =
-    ap (λ (x : ℕ). ltb (step * c) x || eqb (step * c) x && odd m) (sym (mul-assoc 2 rest c))
-    ∙ ap₂ (λ (s t : Bool). s || t && odd m) (ltb-scales step (2 * rest) c some) (eqb-scales step (2 * rest) c some)
+    ap (λ (x : ℕ). ltb (step * c) x || (eqb (step * c) x && odd m)) (sym (mul-assoc 2 rest c))
+    ∙ ap₂ (λ (s t : Bool). s || (t && odd m)) (ltb-scales step (2 * rest) c some) (eqb-scales step (2 * rest) c some)
 choice-scales TiesToZero negative m rest step c word some = ap (ltb (step * c)) (sym (mul-assoc 2 rest c)) ∙ ltb-scales step (2 * rest) c some
 choice-scales TiesAway negative m rest step c word some = ap (leb (step * c)) (sym (mul-assoc 2 rest c)) ∙ leb-scales step (2 * rest) c some
 choice-scales TowardZero negative m rest step c word some = refl
@@ -197,7 +197,7 @@ module _ (negative : Bool) (rest d word : ℕ) (small : rest < 2 ^ 53) (far : 63
   even-far : takesHi TiesToEven negative 0 rest (2 ^ d) word ≡ false
   unfolding takesHi
   even-far =
-      ap₂ (λ (s t : Bool). s || t && odd 0) (le-ltb (2 ^ d) (2 * rest) (le-of-lt twice-below))
+      ap₂ (λ (s t : Bool). s || (t && odd 0)) (le-ltb (2 ^ d) (2 * rest) (le-of-lt twice-below))
       (ne-eqb (2 ^ d) (2 * rest) (λ (e : 2 ^ d ≡ 2 * rest). omega (arith, twice-below)))
 
   zero-far : takesHi TiesToZero negative 0 rest (2 ^ d) word ≡ false

@@ -37,7 +37,7 @@ pub top-written : (f : Format) → written f (T f) ≡ infinity
 top-written f = reached-written f (T f) (le-refl (T f))
 
 -- lo is below T where the magnitude is
-pub lo-written : (f : Format) (a : ℕ) → a < T f → written f (lo f a) ≡ pat (lo f a)
+lo-written : (f : Format) (a : ℕ) → a < T f → written f (lo f a) ≡ pat (lo f a)
 lo-written f a h = below-written f (lo f a) (lt-of-le-of-lt (lo-not-above f a) h)
 
 module _ (f : Format) (mode : Mode) (negative : Bool) (word a : ℕ) where

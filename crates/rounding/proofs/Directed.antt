@@ -80,7 +80,7 @@ module _ (f : Format) (r : InRange f) where
 
   module _ (mode : Mode) (word x : ℕ) where
     -- so such a mode raises no pattern's magnitude,
-    pub always-lo-not-above : ((q rest G : ℕ) → takesHi mode (sign x) q rest G word ≡ false) → overflows mode (sign x) ≡ false
+    always-lo-not-above : ((q rest G : ℕ) → takesHi mode (sign x) q rest G word ≡ false) → overflows mode (sign x) ≡ false
         → mag (rounded f mode word x) ≤ mag x
     always-lo-not-above down saturates = go (finite-or-not x)
       where
@@ -89,7 +89,7 @@ module _ (f : Format) (r : InRange f) where
         go (inr special) = le-of-eq (ap mag (specials-come-back f mode word x special))
 
     -- or lowers none
-    pub always-hi-not-below : ((q rest G : ℕ) → takesHi mode (sign x) q rest G word ≡ true) → overflows mode (sign x) ≡ true
+    always-hi-not-below : ((q rest G : ℕ) → takesHi mode (sign x) q rest G word ≡ true) → overflows mode (sign x) ≡ true
         → mag x ≤ mag (rounded f mode word x)
     always-hi-not-below up overflow = go (finite-or-not x)
       where

@@ -3,7 +3,7 @@
 use mathlib.Core.Bool.{Bool, not, cond}
 use mathlib.Core.Path.{_≡_, sym, ap, _∙_, subst}
 use Prim.Native.Nat.{ℕ, _+_, _-_, _*_, _/_, _%_, _^_, _≤_, _<_}
-use native.Mathlib.Nat.{mod-lt, mul-assoc}
+use native.Mathlib.Nat.{mul-assoc}
 use native.Mathlib.Omega.{arith}
 use lib.Dec.{eqb}
 use lib.Pow.{pow-add, pow-pos, shl-exact, shl-shr}
@@ -14,6 +14,7 @@ use Rattle.rounding.specs.declared.Mode.{Mode}
 use Rattle.rounding.specs.declared.Mode.the-variants.{TiesToEven, TiesToZero, TiesAway, TowardZero, TowardPlus, TowardMinus, ToOdd, Stochastic, EvenChance}
 use Rattle.rounding.specs.Modes.{u}
 use Rattle.rounding.specs.Increments.{increment}
+use Rattle.rounding.proofs.Choices.{u-below}
 
 -- ---- the digits below a place
 
@@ -67,8 +68,8 @@ module _ (d : ℕ) (fits : d < 64) where
 -- ---- the share of mode 7
 
 pub random-below : (n word r : ℕ) → n ≡ low word r → n < 2 ^ r
-unfolding low
-random-below n word r e = subst (λ (x : ℕ). x < 2 ^ r) (sym e) (mod-lt word (pow-pos r))
+unfolding low u
+random-below n word r e = subst (λ (x : ℕ). x < 2 ^ r) (sym e) (u-below r word)
 
 module _ (n r d : ℕ) where
   pub share-up : n < 2 ^ r → d < 64 → r ≤ d → n * 2 ^ (d - r) % 2 ^ 64 ≡ n * 2 ^ d / 2 ^ r

@@ -13,21 +13,20 @@ use Rattle.rounding.specs.declared.Mode.{Mode}
 use Rattle.rounding.specs.BySettings.{settings}
 
 module _ (f : Format) (passed : inRange f ≡ true) where
-  pub range-bounds : InRange f
-  range-bounds = in-range-bounds f passed
+  bounds : InRange f
+  bounds = in-range-bounds f passed
 
   pub zeta-exponent-sub : f .sub ≡ true → 1076 - f .emax - f .p ≡ zetaExp f
   unfolding emin
-  zeta-exponent-sub kept = omega (arith, range-bounds, zeta-sub f range-bounds kept)
+  zeta-exponent-sub kept = omega (arith, bounds, zeta-sub f bounds kept)
 
   pub zeta-exponent-no-sub : f .sub ≡ false → 1075 - f .emax ≡ zetaExp f
   unfolding emin
-  zeta-exponent-no-sub none = sym (zeta-no-sub f range-bounds none)
+  zeta-exponent-no-sub none = sym (zeta-no-sub f bounds none)
 
   pub settings-are : (mode : Mode) (bottom : ℕ) → bottom ≡ zetaExp f → (z x t : ℕ) → z ≡ powerPattern bottom → x ≡ patternIn f (xmax f) → t ≡ patternIn f (T f)
       → record { mode = mode; cut = 53 - f .p; emin = 1075 - f .emax; bottom = bottom; zeta = z; xmax = x; top = t } ≡ settings f mode
   unfolding settings emin zeta
   settings-are mode bottom b z x t zs xs ts =
-      let r = range-bounds in
-      let few : zetaExp f ≤ 1074 + 1024 = omega (arith, range-bounds, zeta-not-above f range-bounds) in
+      let few : zetaExp f ≤ 1074 + 1024 = omega (arith, bounds, zeta-not-above f bounds) in
       simp (zs, b, power-pattern-is (zetaExp f) few, xs, ts, pattern-in-range f true (sym passed) refl (xmax f), pattern-in-range f true (sym passed) refl (T f))

@@ -44,7 +44,7 @@ module _ (mode : Mode) (nearest : ToNearest mode) (negative : Bool) where
         nearest-cases (λ (n : Mode). takesHi n negative m rest G word ≡ true → G ≤ 2 * rest)
         (go (ltb G (2 * rest)) refl) (λ e. le-of-lt (ltb-true G (2 * rest) e)) (leb-true G (2 * rest)) mode nearest
       where
-        go : (t : Bool) → ltb G (2 * rest) ≡ t → (t || eqb G (2 * rest) && odd m) ≡ true → G ≤ 2 * rest
+        go : (t : Bool) → ltb G (2 * rest) ≡ t → (t || (eqb G (2 * rest) && odd m)) ≡ true → G ≤ 2 * rest
         go true over e = le-of-lt (ltb-true G (2 * rest) over)
         go false over e = le-of-eq (eqb-true G (2 * rest) (and-left (eqb G (2 * rest)) (odd m) e))
 
@@ -55,7 +55,7 @@ module _ (mode : Mode) (nearest : ToNearest mode) (negative : Bool) where
         nearest-cases (λ (n : Mode). takesHi n negative m rest G word ≡ false → 2 * rest ≤ G)
         (go (ltb G (2 * rest)) refl) (ltb-false G (2 * rest)) (λ e. le-of-lt (leb-false G (2 * rest) e)) mode nearest
       where
-        go : (t : Bool) → ltb G (2 * rest) ≡ t → (t || eqb G (2 * rest) && odd m) ≡ false → 2 * rest ≤ G
+        go : (t : Bool) → ltb G (2 * rest) ≡ t → (t || (eqb G (2 * rest) && odd m)) ≡ false → 2 * rest ≤ G
         go true over e = absurd (true≢false e)
         go false over e = ltb-false G (2 * rest) over
 
@@ -77,7 +77,7 @@ module _ (f : Format) (r : InRange f) (a : ℕ) where
         go (inr h) = inl h
 
     -- lo is nearest where the rest is at most half the step,
-    pub lo-nearest : 2 * (a - lo f a) ≤ step f a → Nearest f a (lo f a)
+    lo-nearest : 2 * (a - lo f a) ≤ step f a → Nearest f a (lo f a)
     unfolding hi
     lo-nearest half = record { among = lo-candidate f r a below; closest = λ d among. go d (outside d among) }
       where
@@ -86,7 +86,7 @@ module _ (f : Format) (r : InRange f) (a : ℕ) where
         go d (inr h) = omega (arith, half, lo-not-above f a)
 
     -- hi where it is at least half,
-    pub hi-nearest : step f a ≤ 2 * (a - lo f a) → Nearest f a (hi f a)
+    hi-nearest : step f a ≤ 2 * (a - lo f a) → Nearest f a (hi f a)
     unfolding hi
     hi-nearest half = record { among = hi-candidate f r a below; closest = λ d among. go d (outside d among) }
       where
@@ -95,19 +95,19 @@ module _ (f : Format) (r : InRange f) (a : ℕ) where
         go d (inr h) = omega (arith, half, lo-not-above f a, hi-above f a)
 
     -- and a magnitude that is its own lo is nearest to itself
-    pub exact-nearest : lo f a ≡ a → Nearest f a a
+    exact-nearest : lo f a ≡ a → Nearest f a a
     exact-nearest exact =
         record { among = subst (Candidate f) exact (lo-candidate f r a below); closest = λ d among. omega arith }
 
   -- from T on T is the nearest, as no candidate is above it
-  pub top-nearest : T f ≤ a → Nearest f a (T f)
+  top-nearest : T f ≤ a → Nearest f a (T f)
   top-nearest reached = record { among = top refl; closest = λ d among. omega (arith, candidate-not-above-top f r d among) }
 
 -- ---- the answer
 
 module _ (f : Format) (r : InRange f) (mode : Mode) (nearest : ToNearest mode) where
   -- below T the candidate that is taken is nearest
-  pub taken-nearest : (negative : Bool) (word a : ℕ) → a < T f → Nearest f a (taken f mode negative word a)
+  taken-nearest : (negative : Bool) (word a : ℕ) → a < T f → Nearest f a (taken f mode negative word a)
   taken-nearest negative word a below =
       taken-cases f mode negative word a (Nearest f a)
       (exact-nearest f r a below)

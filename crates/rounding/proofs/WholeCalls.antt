@@ -12,8 +12,8 @@ use Rattle.rounding.specs.declared.Prepared.{Prepared}
 use Rattle.rounding.specs.declared.Prepared.the-variants.{Ready, Refused}
 use Rattle.rounding.specs.Modes.{modeOf}
 use Rattle.rounding.specs.Rounded.{rounded}
-use Rattle.rounding.specs.BySettings.{settings, roundedBy}
-use Rattle.rounding.specs.Calls.{refusal, prepared, numberOf, answered, refused, roundOne}
+use Rattle.rounding.specs.BySettings.{settings, roundedBy, prepared, numberOf}
+use Rattle.rounding.specs.Calls.{refusal, answered, refused, roundOne}
 use Rattle.rounding.proofs.Refusals.{accepted-in-range, accepted-mode-fits}
 use Rattle.rounding.proofs.Agreement.{rounded-by-settings}
 

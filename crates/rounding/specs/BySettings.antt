@@ -3,16 +3,19 @@
 -- Assumes nothing.
 use mathlib.Core.Bool.{Bool, cond}
 use Prim.Native.Nat.{ℕ, _+_, _-_, _*_, _^_, min, max}
-use lib.Dec.{leb, ltb}
+use lib.Dec.{leb, ltb, eqb}
 use Rattle.grid.specs.declared.Format.{Format}
 use Rattle.grid.specs.Patterns.{sign, mag, infinity, kindOf, ex, sig, digitsOf, pat}
 use Rattle.grid.specs.Places.{high}
 use Rattle.grid.specs.Formats.{emin, zetaExp, zeta, xmax, T}
 use Rattle.rounding.specs.declared.Mode.{Mode}
 use Rattle.rounding.specs.declared.Settings.{Settings}
-use Rattle.rounding.specs.Modes.{overflows}
+use Rattle.rounding.specs.declared.Prepared.{Prepared}
+use Rattle.rounding.specs.declared.Prepared.the-variants.{Ready, Refused}
+use Rattle.rounding.specs.Modes.{modeOf, overflows}
 use Rattle.rounding.specs.Increments.{increment}
 use Rattle.rounding.specs.Rounded.{answerTo}
+use Rattle.rounding.specs.Calls.{refusal}
 
 -- what is worked out once
 unfoldable pub settings : Format → Mode → Settings
@@ -62,3 +65,12 @@ goesToBy s negative word m =
 -- the answer's pattern, for every 64-bit input
 unfoldable pub roundedBy : Settings → ℕ → ℕ → ℕ
 roundedBy s word x = answerTo (kindOf x) x (goesToBy s (sign x) word (mag x))
+
+-- the settings to round by, or the refusal's number
+unfoldable pub prepared : Format → ℕ → ℕ → Prepared
+prepared f mode r = cond (eqb (refusal f mode r) 0) (Ready (settings f (modeOf mode r))) (Refused (refusal f mode r))
+
+-- document 01's number for what was prepared: 0 where nothing is refused
+unfoldable pub numberOf : Prepared → ℕ
+numberOf (Ready s) = 0
+numberOf (Refused number) = number

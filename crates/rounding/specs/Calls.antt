@@ -5,11 +5,8 @@ use lib.Dec.{ltb, eqb}
 use Rattle.grid.specs.declared.Format.{Format}
 use Rattle.grid.specs.Formats.{between, precisionFits, exponentFits}
 use Rattle.rounding.specs.declared.Answer.{Answer}
-use Rattle.rounding.specs.declared.Prepared.{Prepared}
-use Rattle.rounding.specs.declared.Prepared.the-variants.{Ready, Refused}
 use Rattle.rounding.specs.Modes.{modeOf}
 use Rattle.rounding.specs.Rounded.{rounded}
-use Rattle.rounding.specs.BySettings.{settings}
 
 -- r runs from 1 to 53
 unfoldable pub bitsFit : ℕ → Bool
@@ -22,15 +19,6 @@ refusal f mode r =
     (cond (not (exponentFits (f .emax))) 2
     (cond (ltb 8 mode) 3
     (cond (eqb mode 7 && not (bitsFit r)) 4 0)))
-
--- the settings to round by, or the refusal's number
-unfoldable pub prepared : Format → ℕ → ℕ → Prepared
-prepared f mode r = cond (eqb (refusal f mode r) 0) (Ready (settings f (modeOf mode r))) (Refused (refusal f mode r))
-
--- document 01's number for what was prepared: 0 where nothing is refused
-unfoldable pub numberOf : Prepared → ℕ
-numberOf (Ready s) = 0
-numberOf (Refused number) = number
 
 -- the answer of a single call: number 0 and a pattern, or the refusal's number and pattern 0
 abbrev pub answered : ℕ → Answer

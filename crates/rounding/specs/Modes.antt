@@ -43,7 +43,7 @@ u r word = word % 2 ^ r
 -- a - lo, the step G = hi - lo, and the word. hi is nearer where twice the rest is above G, and a tie is where it is G. hi's m
 -- is one more than lo's, so one of the two is even and the other odd: 0 is even, zeta is odd, xmax is odd and T is even.
 unfoldable pub takesHi : Mode → Bool → ℕ → ℕ → ℕ → ℕ → Bool
-takesHi TiesToEven negative m rest G word = ltb G (2 * rest) || eqb G (2 * rest) && odd m
+takesHi TiesToEven negative m rest G word = ltb G (2 * rest) || (eqb G (2 * rest) && odd m)
 takesHi TiesToZero negative m rest G word = ltb G (2 * rest)
 takesHi TiesAway negative m rest G word = leb G (2 * rest)
 takesHi TowardZero negative m rest G word = false

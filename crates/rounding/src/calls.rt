@@ -1,7 +1,7 @@
 // The calls: what is refused, and what is answered.
 ghost use mathlib.Core.Path.{_≡_};
-ghost use Rattle.rounding.specs.BySettings.{roundedBy};
-ghost use Rattle.rounding.specs.Calls.{bitsFit, refusal, prepared, numberOf, roundOne};
+ghost use Rattle.rounding.specs.BySettings.{roundedBy, prepared, numberOf};
+ghost use Rattle.rounding.specs.Calls.{bitsFit, refusal, roundOne};
 use super::Answer;
 use super::Prepared;
 use super::Settings;
@@ -63,8 +63,7 @@ pub fn prepare(format: Format, mode: u64, r: u64) -> Prepared
 pub fn round_by(s: Settings, word: u64, x: u64) -> u64
     ensures { λ y. ⌜ y ≡ roundedBy s word x ⌝ }
 {
-    let kind = kind_of(x);
-    match kind {
+    match kind_of(x) {
         Kind::Zero => x,
         Kind::Finite => {
             let m = round_magnitude(s, sign_of(x), word, magnitude_of(x));
@@ -80,8 +79,7 @@ pub fn round_by(s: Settings, word: u64, x: u64) -> u64
 pub fn round_one(format: Format, mode: u64, r: u64, word: u64, x: u64) -> Answer
     ensures { λ y. ⌜ y ≡ roundOne format mode r word x ⌝ }
 {
-    let prepared = prepare(format, mode, r);
-    match prepared {
+    match prepare(format, mode, r) {
         Prepared::Ready(s) => Answer {
             number: 0,
             pattern: round_by(s, word, x),

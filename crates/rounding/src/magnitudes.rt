@@ -72,7 +72,7 @@ fn reaches_zeta(mode: Mode, negative: bool, word: u64, m: u64, d: u64) -> bool
     1 << c <= rest + increment_of(mode, negative, 0, c, word)
 }
 
-// The magnitude pattern that m goes to, which is below T: T itself may come out.
+// Of m below T: the magnitude pattern that it goes to. T's own may come out.
 fn round_below_top(s: Settings, negative: bool, word: u64, m: u64) -> u64
     requires { ⌜ m < 2 ^ 63 ⌝ }
     ensures { λ y. ⌜ y ≡ moved s negative word m ⌝ }

@@ -1,6 +1,7 @@
 -- `rounding::calls::round_by` meets its contract. Assumes nothing.
 use borrow.Author.Needs.{needs}
-use Rattle.rounding.proofs.BySettings.{zero-back, finite-rounded, infinity-back, nan-back, magnitude-below}
+use Rattle.grid.proofs.Signs.{magnitude-below}
+use Rattle.rounding.proofs.BySettings.{zero-back, finite-rounded, infinity-back, nan-back}
 use Rattle.rounding.proofs.calls.round_by.Statement.{statement}
 use Rattle.rounding.proofs.calls.round_by.Tie as tie
 

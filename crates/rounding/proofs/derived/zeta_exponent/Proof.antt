@@ -1,18 +1,19 @@
 -- `rounding::derived::zeta_exponent` meets its contract. Assumes nothing.
 use native.Mathlib.Omega.{arith}
 use Rattle.grid.specs.Formats.{InRange}
-use Rattle.rounding.proofs.Landmarks.{range-bounds, zeta-exponent-sub, zeta-exponent-no-sub}
+use Rattle.grid.proofs.Ranges.{in-range-bounds}
+use Rattle.rounding.proofs.Landmarks.{zeta-exponent-sub, zeta-exponent-no-sub}
 use Rattle.rounding.proofs.derived.zeta_exponent.Statement.{statement}
 use Rattle.rounding.proofs.derived.zeta_exponent.Tie as tie
 
 sub-result : tie.Need-sub-result
 sub-result c =
-    let r : InRange (c .before .before .args .f) = search range-bounds in
+    let r : InRange (c .before .before .args .f) = search in-range-bounds in
     omega arith
 
 sub-result-2 : tie.Need-sub-result-2
 sub-result-2 c =
-    let r : InRange (c .before .before .before .args .f) = search range-bounds in
+    let r : InRange (c .before .before .before .args .f) = search in-range-bounds in
     omega arith
 
 returns : tie.Need-returns
@@ -20,7 +21,7 @@ returns c = search zeta-exponent-sub
 
 sub-result-3 : tie.Need-sub-result-3
 sub-result-3 c =
-    let r : InRange (c .before .before .args .f) = search range-bounds in
+    let r : InRange (c .before .before .args .f) = search in-range-bounds in
     omega arith
 
 returns-2 : tie.Need-returns-2
