@@ -14,7 +14,7 @@ fn format(p: u64, emax: u64, sub: bool) -> Format {
     Format { p, emax, sub }
 }
 
-// Ties in binary16, beside an even and an odd m, and one unit of binary64 on either side.
+// Ties in binary16, beside an even and an odd m, and one last place of binary64 on either side.
 pub(crate) fn near_one() {
     let f = binary16();
     print_answers(f, 0x3FF0_01FF_FFFF_FFFF);

@@ -1,9 +1,9 @@
 // Names, numbers and patterns on standard output. No contract can say what is written: the program's
 // whole text is compared with the stored one.
 
-// Writes words.
-pub(crate) fn print(words: &[u8]) {
-    io::write_all(1, words);
+// Writes bytes.
+pub(crate) fn print(bytes: &[u8]) {
+    io::write_all(1, bytes);
 }
 
 // Writes a name and a number in decimal.

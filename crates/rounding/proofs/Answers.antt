@@ -1,11 +1,12 @@
 -- The answer to a pattern: what comes back unaltered, that the sign is kept, that it is a candidate of the format, and whether
 -- it is lo or hi for a finite number below T. Assumes nothing.
-use mathlib.Core.Bool.{Bool, true, false, cond}
+use mathlib.Core.Bool.{Bool, true, false, cond, _&&_}
 use mathlib.Core.Path.{_≡_, refl, sym, ap, _∙_, subst}
 use mathlib.Core.Logic.{_⊎_, inl, inr}
 use Prim.Native.Nat.{ℕ, _+_, _-_, _/_, _^_, _<_}
-use native.Mathlib.Nat.{sub-self, lt-irrefl, eq-or-lt-of-le}
-use lib.Dec.{leb}
+use native.Mathlib.Nat.{sub-self, lt-irrefl, eq-or-lt-of-le, le-of-eq}
+use lib.Dec.{leb, ltb}
+use borrow.Author.Tests.{lt-ltb, le-ltb}
 use Rattle.grid.specs.declared.Format.{Format}
 use Rattle.grid.specs.declared.Kind.{Kind}
 use Rattle.grid.specs.declared.Kind.the-variants.{Zero, Finite, Infinity, NaN}
@@ -108,6 +109,22 @@ module _ (f : Format) (word x : ℕ) (finite : kindOf x ≡ Finite) (a : ℕ) (i
       finite-answer f mode word x finite
       ∙ ap (λ (n : ℕ). withSign x (goesTo f mode (sign x) word n)) is
       ∙ ap (withSign x) (below-goes f mode (sign x) word a below ∙ ap (written f) e)
+
+  -- it is hi where the input lies above lo and the table takes hi, and lo otherwise
+  pub answer-lo-or-hi : (mode : Mode) → rounded f mode word x
+      ≡ withSign x (written f (cond (ltb (lo f a) a && takesHi mode (sign x) (a / step f a) (a - lo f a) (step f a) word) (hi f a) (lo f a)))
+  answer-lo-or-hi mode = answer-is mode (cond (ltb (lo f a) a && choice) (hi f a) (lo f a)) (go (eq-or-lt-of-le (lo-not-above f a)))
+    where
+      choice : Bool
+      choice = takesHi mode (sign x) (a / step f a) (a - lo f a) (step f a) word
+
+      go : (lo f a ≡ a) ⊎ (lo f a < a) → taken f mode (sign x) word a ≡ cond (ltb (lo f a) a && choice) (hi f a) (lo f a)
+      go (inl exact) =
+          exact-taken f mode (sign x) word a exact
+          ∙ sym (ap (λ (b : Bool). cond (b && choice) (hi f a) (lo f a)) (le-ltb (lo f a) a (le-of-eq (sym exact))) ∙ exact)
+      go (inr inexact) =
+          choice-taken f mode (sign x) word a inexact choice refl
+          ∙ sym (ap (λ (b : Bool). cond (b && choice) (hi f a) (lo f a)) (lt-ltb (lo f a) a inexact))
 
   -- between two candidates it is lo or hi, as the table says
   module _ (mode : Mode) (inexact : lo f a < a) where

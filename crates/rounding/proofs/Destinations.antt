@@ -61,13 +61,13 @@ module _ (f : Format) (mode : Mode) (negative : Bool) (word a : ℕ) where
       → P (taken f mode negative word a)
   taken-cases P exact low high = go (eq-or-lt-of-le (lo-not-above f a))
     where
-      pick : lo f a < a → (b : Bool) → takesHi mode negative (a / step f a) (a - lo f a) (step f a) word ≡ b → P (taken f mode negative word a)
-      pick inexact false e = subst P (sym (choice-taken inexact false e)) (low e)
-      pick inexact true e = subst P (sym (choice-taken inexact true e)) (high e)
+      chosen : lo f a < a → (b : Bool) → takesHi mode negative (a / step f a) (a - lo f a) (step f a) word ≡ b → P (taken f mode negative word a)
+      chosen inexact false e = subst P (sym (choice-taken inexact false e)) (low e)
+      chosen inexact true e = subst P (sym (choice-taken inexact true e)) (high e)
 
       go : (lo f a ≡ a) ⊎ (lo f a < a) → P (taken f mode negative word a)
       go (inl e) = subst P (sym (exact-taken e)) (exact e)
-      go (inr inexact) = pick inexact (takesHi mode negative (a / step f a) (a - lo f a) (step f a) word) refl
+      go (inr inexact) = chosen inexact (takesHi mode negative (a / step f a) (a - lo f a) (step f a) word) refl
 
   -- ---- which pattern it goes to
 

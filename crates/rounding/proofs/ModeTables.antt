@@ -23,3 +23,17 @@ mode-past (suc (suc (suc (suc (suc (suc zero)))))) r a b c d e f g h = absurd (g
 mode-past (suc (suc (suc (suc (suc (suc (suc zero))))))) r a b c d e f g h = absurd (h refl)
 mode-past (suc (suc (suc (suc (suc (suc (suc (suc zero)))))))) r a b c d e f g h = refl
 mode-past (suc (suc (suc (suc (suc (suc (suc (suc (suc n))))))))) r a b c d e f g h = refl
+
+-- no other number looks at r
+pub mode-unread : (n r s : ℕ) → (n ≡ 7 → ⊥) → modeOf n r ≡ modeOf n s
+unfolding modeOf
+mode-unread zero r s other = refl
+mode-unread (suc zero) r s other = refl
+mode-unread (suc (suc zero)) r s other = refl
+mode-unread (suc (suc (suc zero))) r s other = refl
+mode-unread (suc (suc (suc (suc zero)))) r s other = refl
+mode-unread (suc (suc (suc (suc (suc zero))))) r s other = refl
+mode-unread (suc (suc (suc (suc (suc (suc zero)))))) r s other = refl
+mode-unread (suc (suc (suc (suc (suc (suc (suc zero))))))) r s other = absurd (other refl)
+mode-unread (suc (suc (suc (suc (suc (suc (suc (suc zero)))))))) r s other = refl
+mode-unread (suc (suc (suc (suc (suc (suc (suc (suc (suc n))))))))) r s other = refl

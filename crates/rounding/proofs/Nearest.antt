@@ -23,7 +23,7 @@ use Rattle.rounding.specs.declared.Mode.the-variants.{TiesToEven, TiesTo
 use Rattle.rounding.specs.Modes.{odd, takesHi, overflows}
 use Rattle.rounding.specs.Rounded.{taken, written, goesTo, rounded}
 use Rattle.rounding.specs.Facts.{distance, Nearest, ToNearest}
-use Rattle.rounding.specs.Facts.ToNearest.{to-even, toward-zero, away-from-zero}
+use Rattle.rounding.specs.Facts.ToNearest.{ties-to-even, ties-to-zero, ties-away}
 use Rattle.rounding.proofs.Destinations.{top-written, taken-cases, below-goes, reached-goes}
 use Rattle.rounding.proofs.Answers.{finite-answer}
 
@@ -31,9 +31,9 @@ use Rattle.rounding.proofs.Answers.{finite-answer}
 
 -- what holds for each of the three modes holds for every mode that rounds to nearest
 nearest-cases : (P : Mode → Type 0) → P TiesToEven → P TiesToZero → P TiesAway → (mode : Mode) → ToNearest mode → P mode
-nearest-cases P even zero away mode (to-even e) = subst P (sym e) even
-nearest-cases P even zero away mode (toward-zero e) = subst P (sym e) zero
-nearest-cases P even zero away mode (away-from-zero e) = subst P (sym e) away
+nearest-cases P even zero away mode (ties-to-even e) = subst P (sym e) even
+nearest-cases P even zero away mode (ties-to-zero e) = subst P (sym e) zero
+nearest-cases P even zero away mode (ties-away e) = subst P (sym e) away
 
 module _ (mode : Mode) (nearest : ToNearest mode) (negative : Bool) where
   module _ (m rest G word : ℕ) where

@@ -1,10 +1,11 @@
 -- The calls: what is prepared, and the answer to one pattern, in the forms in which the code comes to them. Assumes nothing.
-use mathlib.Core.Bool.{Bool, true, false, cond, false≢true}
-use mathlib.Core.Path.{_≡_, refl, sym, ap, _∙_}
+use mathlib.Core.Bool.{Bool, true, false, cond, not, _&&_, false≢true}
+use mathlib.Core.Path.{_≡_, refl, sym, ap, ap₂, _∙_}
 use Prim.Native.Nat.{ℕ}
-use lib.Dec.{eqb}
+use lib.Dec.{ltb, eqb}
 use borrow.Author.Tests.{eq-eqb, ne-eqb, eqb-true}
 use Rattle.grid.specs.declared.Format.{Format}
+use Rattle.grid.specs.Formats.{precisionFits, exponentFits}
 use Rattle.grid.proofs.Ranges.{in-range-bounds}
 use Rattle.rounding.specs.declared.Mode.{Mode}
 use Rattle.rounding.specs.declared.Settings.{Settings}
@@ -13,7 +14,8 @@ use Rattle.rounding.specs.declared.Prepared.the-variants.{Ready, Refused
 use Rattle.rounding.specs.Modes.{modeOf}
 use Rattle.rounding.specs.Rounded.{rounded}
 use Rattle.rounding.specs.BySettings.{settings, roundedBy, prepared, numberOf}
-use Rattle.rounding.specs.Calls.{refusal, answered, refused, roundOne}
+use Rattle.rounding.specs.Calls.{bitsFit, refusal, answered, refused, roundOne}
+use Rattle.rounding.proofs.ModeTables.{mode-unread}
 use Rattle.rounding.proofs.Refusals.{accepted-in-range, accepted-mode-fits}
 use Rattle.rounding.proofs.Agreement.{rounded-by-settings}
 
@@ -73,3 +75,17 @@ module _ (f : Format) (mode r word x : ℕ) (p : Prepared) (e : p ≡ prepared f
           → refused n ≡ cond b (answered (rounded f (modeOf mode r) word x)) (refused (refusal f mode r))
       go true same = absurd (false≢true (sym (ap isReady same)))
       go false same = ap refused (sym (ap numberOf same))
+
+-- ---- r
+
+-- a mode other than 7 is refused or not, and answers, whatever r is
+pub r-unread : (f : Format) (mode r s word x : ℕ) → (mode ≡ 7 → ⊥) → roundOne f mode r word x ≡ roundOne f mode s word x
+unfolding roundOne refusal
+r-unread f mode r s word x other =
+    ap₂ (λ (n : ℕ) (m : Mode). cond (eqb n 0) (answered (rounded f m word x)) (refused n)) same (mode-unread mode r s other)
+  where
+    number : ℕ → Bool → ℕ
+    number b seven = cond (not (precisionFits (f .p))) 1 (cond (not (exponentFits (f .emax))) 2 (cond (ltb 8 mode) 3 (cond (seven && not (bitsFit b)) 4 0)))
+
+    same : refusal f mode r ≡ refusal f mode s
+    same = ap (number r) (ne-eqb mode 7 other) ∙ sym (ap (number s) (ne-eqb mode 7 other))

@@ -1,5 +1,6 @@
--- The answer's pattern as it is computed, from settings that are worked out once for a format and a mode. That it is the
--- rounded pattern is the law `rounded-by-settings`. For settings of any other numbers it is only what the code does.
+-- The answer's pattern as it is computed, from settings that are worked out once for a format and a mode, and what hands them
+-- out. That it is the rounded pattern is the law `rounded-by-settings`. For settings of any other numbers it is only what the
+-- code does.
 -- Assumes nothing.
 use mathlib.Core.Bool.{Bool, cond}
 use Prim.Native.Nat.{ℕ, _+_, _-_, _*_, _^_, min, max}
@@ -56,7 +57,7 @@ moved s negative word m =
     let d = place (s .cut) (s .emin) (s .bottom) m in
     cond (ltb d 53) (kept (s .mode) negative word m d) (cond (reached (s .mode) negative word m d) (s .zeta) 0)
 
--- the magnitude pattern that m goes to: T is written as infinity, and from T on the overflow column alone counts
+-- the magnitude pattern that m goes to: what comes out as T is infinity, and an m that reaches T goes by its mode's overflow
 unfoldable pub goesToBy : Settings → Bool → ℕ → ℕ → ℕ
 goesToBy s negative word m =
     let y = moved s negative word m in

@@ -18,9 +18,9 @@ pub record Alike (mode : Mode) (v w : ℕ) : Type 0 where
 
 -- a mode rounds to nearest
 pub data ToNearest (mode : Mode) : Type 0 where
-  to-even : mode ≡ TiesToEven → ToNearest mode
-  toward-zero : mode ≡ TiesToZero → ToNearest mode
-  away-from-zero : mode ≡ TiesAway → ToNearest mode
+  ties-to-even : mode ≡ TiesToEven → ToNearest mode
+  ties-to-zero : mode ≡ TiesToZero → ToNearest mode
+  ties-away : mode ≡ TiesAway → ToNearest mode
 
 -- how far two numbers are apart: one of the two differences is 0
 abbrev pub distance : ℕ → ℕ → ℕ

@@ -40,8 +40,9 @@ unfoldable pub u : ℕ → ℕ → ℕ
 u r word = word % 2 ^ r
 
 -- Whether hi is taken, for a magnitude that lies between lo and hi, by its sign (whether it is negative), lo's m, the rest
--- a - lo, the step G = hi - lo, and the word. hi is nearer where twice the rest is above G, and a tie is where it is G. hi's m
--- is one more than lo's, so one of the two is even and the other odd: 0 is even, zeta is odd, xmax is odd and T is even.
+-- a - lo, the step G = hi - lo, and the word. hi is nearer where twice the rest is above G, and a tie is where it is G. m is
+-- counted in the step G, also without subnormals (decision 5), so hi's is one more than lo's, and one of the two is even and
+-- the other odd: 0 is even and zeta odd, xmax is odd and T even.
 unfoldable pub takesHi : Mode → Bool → ℕ → ℕ → ℕ → ℕ → Bool
 takesHi TiesToEven negative m rest G word = ltb G (2 * rest) || (eqb G (2 * rest) && odd m)
 takesHi TiesToZero negative m rest G word = ltb G (2 * rest)

@@ -21,13 +21,13 @@ taken f mode negative word a =
 unfoldable pub written : Format → ℕ → ℕ
 written f c = cond (ltb c (T f)) (pat c) infinity
 
--- the pattern that a magnitude goes to: from T on the overflow column alone counts
+-- the pattern that a magnitude goes to: one that reaches T is not between two candidates, and its mode's overflow decides
 unfoldable pub goesTo : Format → Mode → Bool → ℕ → ℕ → ℕ
 goesTo f mode negative word a =
     cond (ltb a (T f)) (written f (taken f mode negative word a)) (cond (overflows mode negative) infinity (pat (xmax f)))
 
--- The answer to a pattern x, by what it is: NaN, infinities and zeros come back unaltered, and a finite number has the
--- magnitude m that its own goes to, with the input's sign, on zero too.
+-- The answer to a pattern x, by what it is. A zero, an infinity or a NaN is its own answer, whatever the mode. Any other number
+-- is answered by the magnitude m that its own goes to, with its sign; an m of zero gets the sign too.
 unfoldable pub answerTo : Kind → ℕ → ℕ → ℕ
 answerTo Zero x m = x
 answerTo Finite x m = withSign x m

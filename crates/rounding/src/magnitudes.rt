@@ -16,7 +16,7 @@ use grid::significand_of;
 const INFINITY: u64 = 0x7FF0_0000_0000_0000;
 
 // The place of the last kept digit, by where the magnitude's first digit stands: p digits are kept in
-// the normal range, and below it the step is zeta, so that each missing digit costs a place.
+// the normal range, and below it the step is zeta, so that a smaller number keeps fewer.
 fn place_of(cut: u64, emin: u64, bottom: u64, m: u64) -> u64
     ensures { λ y. ⌜ y ≡ place cut emin bottom m ⌝ }
 {
@@ -88,8 +88,8 @@ fn round_below_top(s: Settings, negative: bool, word: u64, m: u64) -> u64
     0
 }
 
-// The magnitude pattern that m goes to. T is written as infinity, and from T on the overflow column
-// alone counts.
+// The magnitude pattern that m goes to. What comes out as T is infinity, and an m that reaches T goes
+// by its mode's overflow.
 pub(crate) fn round_magnitude(s: Settings, negative: bool, word: u64, m: u64) -> u64
     requires { ⌜ m < 2 ^ 63 ⌝ }
     ensures { λ y. ⌜ y ≡ goesToBy s negative word m ⌝ }
