@@ -3,8 +3,8 @@
 use mathlib.Core.Bool.{Bool, true, false, not, cond, _&&_, _||_}
 use mathlib.Core.Path.{_≡_, refl, sym, ap, ap₂, _∙_, subst}
 use mathlib.Core.Logic.{_⊎_, inl, inr}
-use Prim.Native.Nat.{ℕ, zero, suc, _+_, _-_, _*_, _/_, _%_, _^_, _≤_, _<_, max}
-use native.Mathlib.Nat.{le-refl, le-of-lt, lt-of-lt-of-le, mod-lt, mod-eq-of-lt, mul-comm, mul-assoc, mul-zero, zero-add, add-mul, mul-lt-mul-of-pos-right, zero-div, div-eq-of-lt, div-lt-iff-lt-mul, le-div-iff-mul-le, mul-div-mul-right, pow-succ', eq-or-lt-of-le, sub-add-cancel}
+use Prim.Native.Nat.{ℕ, zero, suc, _+_, _-_, _*_, _/_, _%_, _^_, _≤_, _<_, zero-le, max}
+use native.Mathlib.Nat.{lt-of-le-of-lt, mod-self, le-refl, le-of-lt, lt-of-lt-of-le, mod-lt, mod-eq-of-lt, mul-comm, mul-assoc, mul-zero, zero-add, add-mul, mul-lt-mul-of-pos-right, zero-div, div-eq-of-lt, div-lt-iff-lt-mul, le-div-iff-mul-le, mul-div-mul-right, pow-succ', eq-or-lt-of-le, sub-add-cancel}
 use native.Mathlib.Omega.{arith}
 use lib.Dec.{leb, ltb, eqb}
 use lib.Pow.{pow-pos, pow-mono, shr-le, shr-shr}
@@ -40,7 +40,7 @@ increment-below TiesAway negative m D word h = omega arith
 increment-below TowardZero negative m D word h = h
 increment-below TowardPlus negative m D word h = all-or-nothing-below (not negative) D h
 increment-below TowardMinus negative m D word h = all-or-nothing-below negative D h
-increment-below ToOdd negative m D word h = all-or-nothing-below (even m) D h
+increment-below ToOdd negative m D word h = mod-lt (D - 1 + m % 2) h
 increment-below (Stochastic r) negative m D word h =
     div-lt-iff-lt-mul (pow-pos r) .1 (subst (λ (x : ℕ). u r word * D < x) (mul-comm (2 ^ r) D) (mul-lt-mul-of-pos-right (u-below r word) h))
 increment-below EvenChance negative m D word h = all-or-nothing-below (odd word) D h
@@ -84,6 +84,20 @@ even-increment m half some =
     let whole : (2 * half - 1) / 2 + m % 2 ≡ half - 1 + m % 2 = omega arith in
     ap (λ (x : ℕ). x % (2 * half)) whole ∙ mod-eq-of-lt (omega arith)
 
+-- to odd's is all but one where m is even, and nothing where it is odd
+odd-increment : (m D : ℕ) → 0 < D → (D - 1 + m % 2) % D ≡ cond (even m) (D - 1) 0
+odd-increment m D some = go (below-or-not 0 (m % 2))
+  where
+    go : (0 < m % 2) ⊎ (m % 2 ≤ 0) → (D - 1 + m % 2) % D ≡ cond (even m) (D - 1) 0
+    go (inl h) =
+        let whole : D - 1 + m % 2 ≡ D = omega arith in
+        ap (λ (x : ℕ). x % D) whole ∙ mod-self D
+        ∙ sym (ap (λ (b : Bool). cond b (D - 1) 0) (ne-eqb (m % 2) 0 (λ (e : m % 2 ≡ 0). omega arith)))
+    go (inr h) =
+        let rest : D - 1 + m % 2 ≡ D - 1 = omega arith in
+        ap (λ (x : ℕ). x % D) rest ∙ mod-eq-of-lt (omega arith)
+        ∙ sym (ap (λ (b : Bool). cond b (D - 1) 0) (eq-eqb (m % 2) 0 (omega arith)))
+
 -- Of R shares of a step D, those in the rest and v more make R exactly where the rest and v shares' worth make D: both say
 -- that the R - v shares that are left are not above the rest.
 shares-reach : (R D rest v : ℕ) → 0 < R → 0 < D → v < R → rest < D → leb R (R * rest / D + v) ≡ leb D (rest + v * D / R)
@@ -126,7 +140,9 @@ choice-by-half TiesAway negative m rest half word some below =
 choice-by-half TowardZero negative m rest half word some below = all-or-nothing-reaches false rest (2 * half) some below
 choice-by-half TowardPlus negative m rest half word some below = all-or-nothing-reaches (not negative) rest (2 * half) some below
 choice-by-half TowardMinus negative m rest half word some below = all-or-nothing-reaches negative rest (2 * half) some below
-choice-by-half ToOdd negative m rest half word some below = all-or-nothing-reaches (even m) rest (2 * half) some below
+choice-by-half ToOdd negative m rest half word some below =
+    all-or-nothing-reaches (even m) rest (2 * half) some below
+    ∙ ap (λ (x : ℕ). leb (2 * half) (rest + x)) (sym (odd-increment m (2 * half) (lt-of-le-of-lt zero-le below)))
 choice-by-half (Stochastic r) negative m rest half word some below =
     shares-reach (2 ^ r) (2 * half) rest (u r word) (pow-pos r) (omega arith) (u-below r word) below
 choice-by-half EvenChance negative m rest half word some below = all-or-nothing-reaches (odd word) rest (2 * half) some below

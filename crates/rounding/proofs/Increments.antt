@@ -41,8 +41,8 @@ module _ (d : ℕ) (fits : d < 64) where
       unfolding increment
       toward-minus-adds is e = simp (e, is, digits-below)
 
-      pub to-odd-adds : mode ≡ ToOdd → y ≡ cond (eqb (m % 2) 0) (1 * 2 ^ d % 2 ^ 64 - 1) 0 → y ≡ increment mode negative m (2 ^ d) word
-      unfolding increment
+      pub to-odd-adds : mode ≡ ToOdd → y ≡ low (1 * 2 ^ d % 2 ^ 64 - 1 + m % 2) d → y ≡ increment mode negative m (2 ^ d) word
+      unfolding increment low
       to-odd-adds is e = simp (e, is, digits-below)
 
       pub stochastic-adds : (r n : ℕ) → mode ≡ Stochastic r → n ≡ low word r → y ≡ n * 2 ^ d / 2 ^ r → y ≡ increment mode negative m (2 ^ d) word

@@ -4,7 +4,7 @@ use mathlib.Core.Bool.{Bool, not, cond}
 use Prim.Native.Nat.{ℕ, _+_, _-_, _*_, _/_, _%_, _^_}
 use Rattle.rounding.specs.declared.Mode.{Mode}
 use Rattle.rounding.specs.declared.Mode.the-variants.{TiesToEven, TiesToZero, TiesAway, TowardZero, TowardPlus, TowardMinus, ToOdd, Stochastic, EvenChance}
-use Rattle.rounding.specs.Modes.{even, odd, u}
+use Rattle.rounding.specs.Modes.{odd, u}
 
 -- the increment by the sign, lo's m, the step D and the word; each is below D, so an exact input is never moved
 unfoldable pub increment : Mode → Bool → ℕ → ℕ → ℕ → ℕ
@@ -14,6 +14,6 @@ increment TiesAway negative m D word = D / 2
 increment TowardZero negative m D word = 0
 increment TowardPlus negative m D word = cond (not negative) (D - 1) 0
 increment TowardMinus negative m D word = cond negative (D - 1) 0
-increment ToOdd negative m D word = cond (even m) (D - 1) 0
+increment ToOdd negative m D word = (D - 1 + m % 2) % D
 increment (Stochastic r) negative m D word = u r word * D / 2 ^ r
 increment EvenChance negative m D word = cond (odd word) (D - 1) 0

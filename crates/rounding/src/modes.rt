@@ -61,7 +61,7 @@ pub(crate) fn increment_of(mode: Mode, negative: bool, m: u64, d: u64, word: u64
         Mode::TowardZero => 0,
         Mode::TowardPlus => all_if(!negative, below),
         Mode::TowardMinus => all_if(negative, below),
-        Mode::ToOdd => all_if(m % 2 == 0, below),
+        Mode::ToOdd => low_part(below + m % 2, d),
         Mode::Stochastic(r) => share(low_part(word, r), r, d),
         Mode::EvenChance => all_if(word % 2 == 1, below),
     }

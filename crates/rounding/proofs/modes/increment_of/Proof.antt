@@ -38,7 +38,9 @@ returns-9 : tie.Need-returns-9
 returns-9 c = search even-chance-adds
 
 pub increment-of-spec : {M : Type 1} → statement M
-increment-of-spec = tie.close (tie.spec
+increment-of-spec =
+    tie.close
+    (tie.spec
     (λ c. search needs)
     sub-below
     (λ c. search needs)
@@ -52,6 +54,7 @@ increment-of-spec = tie.close (tie.spec
     (λ c κs. search needs)
     (λ c. search needs)
     (λ c κs. search needs)
+    (λ c. search needs)
     (λ c. search needs)
     (λ c κs. search needs)
     (λ c. search needs)
