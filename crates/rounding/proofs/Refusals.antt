@@ -1,7 +1,7 @@
 -- The refusals, as the code comes to them, and what a call that is not refused may lean on. Assumes nothing.
 use mathlib.Core.Bool.{Bool, true, false, cond, not, _&&_}
 use mathlib.Core.Path.{_≡_, refl, sym, ap, _∙_, subst}
-use Prim.Native.Nat.{ℕ, zero, suc, _≤_, _<_}
+use Prim.Native.Nat.{ℕ, suc, _≤_, _<_}
 use native.Mathlib.Omega.{arith}
 use lib.Dec.{ltb, eqb}
 use borrow.Author.Tests.{lt-ltb, le-ltb, eq-eqb, ne-eqb}
@@ -13,6 +13,7 @@ use Rattle.rounding.specs.declared.Mode.the-variants.{TiesToEven, TiesTo
 use Rattle.rounding.specs.Modes.{modeOf}
 use Rattle.rounding.specs.Facts.{ModeFits}
 use Rattle.rounding.specs.Calls.{bitsFit, refusal}
+use Rattle.rounding.proofs.ModeTables.{number-cases, mode-above}
 
 -- ---- one test after the other
 
@@ -89,16 +90,11 @@ holds EvenChance = 0
 -- only number 7 is stochastic rounding, with the call's r
 stochastic-is-seven : (mode r b : ℕ) → holds (modeOf mode r) ≡ suc b → (mode ≡ 7) × (r ≡ b)
 unfolding modeOf
-stochastic-is-seven zero r b e = absurd (omega arith)
-stochastic-is-seven (suc zero) r b e = absurd (omega arith)
-stochastic-is-seven (suc (suc zero)) r b e = absurd (omega arith)
-stochastic-is-seven (suc (suc (suc zero))) r b e = absurd (omega arith)
-stochastic-is-seven (suc (suc (suc (suc zero)))) r b e = absurd (omega arith)
-stochastic-is-seven (suc (suc (suc (suc (suc zero))))) r b e = absurd (omega arith)
-stochastic-is-seven (suc (suc (suc (suc (suc (suc zero)))))) r b e = absurd (omega arith)
-stochastic-is-seven (suc (suc (suc (suc (suc (suc (suc zero))))))) r b e = (refl, omega arith)
-stochastic-is-seven (suc (suc (suc (suc (suc (suc (suc (suc zero)))))))) r b e = absurd (omega arith)
-stochastic-is-seven (suc (suc (suc (suc (suc (suc (suc (suc (suc n))))))))) r b e = absurd (omega arith)
+stochastic-is-seven mode r b =
+    number-cases (λ (k : ℕ). holds (modeOf k r) ≡ suc b → (k ≡ 7) × (r ≡ b))
+    (λ e. absurd (omega arith)) (λ e. absurd (omega arith)) (λ e. absurd (omega arith)) (λ e. absurd (omega arith))
+    (λ e. absurd (omega arith)) (λ e. absurd (omega arith)) (λ e. absurd (omega arith)) (λ e. (refl, omega arith))
+    (λ k e. let last = ap holds (mode-above k r) in absurd (omega arith)) mode
 
 -- so its mode is one of document 01's
 pub accepted-mode-fits : (f : Format) (mode r : ℕ) → refusal f mode r ≡ 0 → ModeFits (modeOf mode r)
