@@ -5,8 +5,11 @@ set -euo pipefail
 unset CDPATH
 cd "$(dirname "$0")/.."
 
-command -v python3 >/dev/null || {
-    echo "tests/worked_examples.sh: python3 is not on the PATH" >&2
-    exit 1
-}
+if ! command -v python3 >/dev/null; then
+    echo "tests/worked_examples.sh: python3 is missing: installing it by apt-get" >&2
+    { apt-get update -q && apt-get install -y -q python3; } >&2 || {
+        echo "tests/worked_examples.sh: python3 could not be installed" >&2
+        exit 1
+    }
+fi
 python3 tests/worked_examples.py crates/blackboard/stdout

@@ -1,4 +1,4 @@
--- What a call refuses, by document 01's numbers and in its order, and what it answers. Assumes nothing.
+-- What a call refuses, by number and in order, and what it answers (document 01, "Refusal numbers"). Assumes nothing.
 use mathlib.Core.Bool.{Bool, cond, not, _&&_}
 use Prim.Native.Nat.{ℕ}
 use lib.Dec.{ltb, eqb}
