@@ -1,3 +1,4 @@
 -- The definitions that more than one crate states its facts with.
+pub mod Lists
 pub mod Promises
 pub mod Tables
