@@ -1,5 +1,7 @@
 -- The laws, a subject a file.
 pub mod Digits
+pub mod Fills
+pub mod Lists
 pub mod Multiples
 pub mod Orders
 pub mod Scales

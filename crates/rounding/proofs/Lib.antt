@@ -12,6 +12,7 @@ pub mod ModeTables
 pub mod Increments
 pub mod Landmarks
 pub mod BySettings
+pub mod Preparations
 pub mod Refusals
 pub mod WholeCalls
 pub mod Unique

@@ -4,7 +4,7 @@ use mathlib.Core.Path.{_≡_, refl, sym, ap, _∙_, subst}
 use Prim.Native.Nat.{ℕ, suc, _≤_, _<_}
 use native.Mathlib.Omega.{arith}
 use lib.Dec.{ltb, eqb}
-use borrow.Author.Tests.{lt-ltb, le-ltb, eq-eqb, ne-eqb}
+use borrow.Author.Tests.{lt-ltb, le-ltb, ltb-false, eq-eqb, ne-eqb}
 use Rattle.grid.specs.declared.Format.{Format}
 use Rattle.grid.specs.Formats.{between, precisionFits, exponentFits, inRange}
 use Rattle.grid.proofs.Ranges.{between-least, between-most}
@@ -61,6 +61,20 @@ accepted-in-range f mode r n e none = go (precisionFits (f .p)) (exponentFits (f
     go true true h = refl
     go true false h = absurd (omega arith)
     go false x h = absurd (omega arith)
+
+-- has a mode that there is
+pub accepted-mode-known : (f : Format) (mode r : ℕ) → refusal f mode r ≡ 0 → mode ≤ 8
+unfolding refusal
+accepted-mode-known f mode r none = go (precisionFits (f .p)) (exponentFits (f .emax)) (ltb 8 mode) refl none
+  where
+    rest : ℕ
+    rest = cond (eqb mode 7 && not (bitsFit r)) 4 0
+
+    go : (p x t : Bool) → ltb 8 mode ≡ t → cond (not p) 1 (cond (not x) 2 (cond t 3 rest)) ≡ 0 → mode ≤ 8
+    go true true true past h = absurd (omega arith)
+    go true true false known h = ltb-false 8 mode known
+    go true false t e h = absurd (omega arith)
+    go false x t e h = absurd (omega arith)
 
 -- in mode 7 its r fits
 accepted-bits : (f : Format) (r : ℕ) → refusal f 7 r ≡ 0 → (1 ≤ r) × (r ≤ 53)

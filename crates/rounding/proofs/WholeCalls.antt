@@ -1,9 +1,9 @@
 -- The calls: what is prepared, and the answer to one pattern, in the forms in which the code comes to them. Assumes nothing.
-use mathlib.Core.Bool.{Bool, true, false, cond, not, _&&_, false≢true}
+use mathlib.Core.Bool.{Bool, cond, not, _&&_}
 use mathlib.Core.Path.{_≡_, refl, sym, ap, ap₂, _∙_}
 use Prim.Native.Nat.{ℕ}
 use lib.Dec.{ltb, eqb}
-use borrow.Author.Tests.{eq-eqb, ne-eqb, eqb-true}
+use borrow.Author.Tests.{eq-eqb, ne-eqb}
 use Rattle.grid.specs.declared.Format.{Format}
 use Rattle.grid.specs.Formats.{precisionFits, exponentFits}
 use Rattle.grid.proofs.Ranges.{in-range-bounds}
@@ -13,21 +13,22 @@ use Rattle.rounding.specs.declared.Prepared.{Prepared}
 use Rattle.rounding.specs.declared.Prepared.the-variants.{Ready, Refused}
 use Rattle.rounding.specs.Modes.{modeOf}
 use Rattle.rounding.specs.Rounded.{rounded}
-use Rattle.rounding.specs.BySettings.{settings, roundedBy, prepared, numberOf}
+use Rattle.rounding.specs.BySettings.{settings, roundedBy, unlessRefused, prepared, numberOf}
 use Rattle.rounding.specs.Calls.{bitsFit, refusal, answered, refused, roundOne}
 use Rattle.rounding.proofs.ModeTables.{mode-unread}
 use Rattle.rounding.proofs.Refusals.{accepted-in-range, accepted-mode-fits}
+use Rattle.rounding.proofs.Preparations.{ready-none, ready-settings, refused-is, refused-some}
 use Rattle.rounding.proofs.Agreement.{rounded-by-settings}
 
 -- ---- what is prepared
 
 module _ (f : Format) (mode r n : ℕ) (e : n ≡ refusal f mode r) where
   pub prepared-ready : n ≡ 0 → (m : Mode) → m ≡ modeOf mode r → (s : Settings) → s ≡ settings f m → Ready s ≡ prepared f mode r
-  unfolding prepared
+  unfolding prepared unlessRefused
   prepared-ready none m named s made = simp (← e, eq-eqb n 0 none, made, named)
 
   pub prepared-refused : (n ≡ 0 → ⊥) → Refused n ≡ prepared f mode r
-  unfolding prepared
+  unfolding prepared unlessRefused
   prepared-refused some = simp (← e, ne-eqb n 0 some)
 
   -- the number of either is the refusal's
@@ -41,15 +42,6 @@ module _ (f : Format) (mode r n : ℕ) (e : n ≡ refusal f mode r) where
 
 -- ---- the answer to one pattern
 
--- what stands in either answer
-abbrev isReady : Prepared → Bool
-isReady (Ready s) = true
-isReady (Refused n) = false
-
-abbrev settingsIn : Settings → Prepared → Settings
-settingsIn other (Ready s) = s
-settingsIn other (Refused n) = other
-
 module _ (f : Format) (mode r word x : ℕ) (p : Prepared) (e : p ≡ prepared f mode r) where
   -- what a call that is not refused answers: the rounded pattern
   accepted-pattern : refusal f mode r ≡ 0 → roundedBy (settings f (modeOf mode r)) word x ≡ rounded f (modeOf mode r) word x
@@ -58,23 +50,21 @@ module _ (f : Format) (mode r word x : ℕ) (p : Prepared) (e : p ≡ prepared f
 
   pub answer-ready : (s : Settings) → p ≡ Ready s → (y : ℕ) → y ≡ roundedBy s word x → answered y ≡ roundOne f mode r word x
   unfolding prepared roundOne
-  answer-ready s is y goes = go (eqb (refusal f mode r) 0) refl (sym e ∙ is)
-    where
-      go : (b : Bool) → eqb (refusal f mode r) 0 ≡ b → cond b (Ready (settings f (modeOf mode r))) (Refused (refusal f mode r)) ≡ Ready s
-          → answered y ≡ cond b (answered (rounded f (modeOf mode r) word x)) (refused (refusal f mode r))
-      go true passed same =
-          ap answered
-          (goes ∙ ap (λ (t : Settings). roundedBy t word x) (sym (ap (settingsIn s) same)) ∙ accepted-pattern (eqb-true (refusal f mode r) 0 passed))
-      go false failed same = absurd (false≢true (ap isReady same))
+  answer-ready s is y goes =
+      let n = refusal f mode r in
+      let t = settings f (modeOf mode r) in
+      let none = ready-none n t s (sym e ∙ is) in
+      let made = ready-settings n t s (sym e ∙ is) in
+      ap answered (goes ∙ ap (λ (k : Settings). roundedBy k word x) made ∙ accepted-pattern none)
+      ∙ sym (ap (λ (b : Bool). cond b (answered (rounded f (modeOf mode r) word x)) (refused n)) (eq-eqb n 0 none))
 
   pub answer-refused : (n : ℕ) → p ≡ Refused n → refused n ≡ roundOne f mode r word x
-  unfolding prepared numberOf roundOne
-  answer-refused n is = go (eqb (refusal f mode r) 0) (sym e ∙ is)
-    where
-      go : (b : Bool) → cond b (Ready (settings f (modeOf mode r))) (Refused (refusal f mode r)) ≡ Refused n
-          → refused n ≡ cond b (answered (rounded f (modeOf mode r) word x)) (refused (refusal f mode r))
-      go true same = absurd (false≢true (sym (ap isReady same)))
-      go false same = ap refused (sym (ap numberOf same))
+  unfolding prepared roundOne
+  answer-refused n is =
+      let m = refusal f mode r in
+      let t = settings f (modeOf mode r) in
+      ap refused (refused-is m t n (sym e ∙ is))
+      ∙ sym (ap (λ (b : Bool). cond b (answered (rounded f (modeOf mode r) word x)) (refused m)) (refused-some m t n (sym e ∙ is)))
 
 -- ---- r
 

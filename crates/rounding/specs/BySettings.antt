@@ -67,9 +67,13 @@ goesToBy s negative word m =
 unfoldable pub roundedBy : Settings → ℕ → ℕ → ℕ
 roundedBy s word x = answerTo (kindOf x) x (goesToBy s (sign x) word (mag x))
 
--- the settings to round by, or the refusal's number
+-- the settings to round by, unless the number is a refusal's
+unfoldable pub unlessRefused : ℕ → Settings → Prepared
+unlessRefused number s = cond (eqb number 0) (Ready s) (Refused number)
+
+-- what a single call comes to
 unfoldable pub prepared : Format → ℕ → ℕ → Prepared
-prepared f mode r = cond (eqb (refusal f mode r) 0) (Ready (settings f (modeOf mode r))) (Refused (refusal f mode r))
+prepared f mode r = unlessRefused (refusal f mode r) (settings f (modeOf mode r))
 
 -- document 01's number for what was prepared: 0 where nothing is refused
 unfoldable pub numberOf : Prepared → ℕ

@@ -1,0 +1,5 @@
+-- The laws, a subject a file.
+pub mod Refusals
+pub mod Turns
+pub mod UnreadWords
+pub mod WholeCalls
