@@ -1,5 +1,6 @@
 -- The laws, a subject a file.
 pub mod Digits
+pub mod Lists
 pub mod Multiples
 pub mod Orders
 pub mod Scales
