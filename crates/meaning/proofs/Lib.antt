@@ -1,1 +1,3 @@
 -- The laws, a subject a file.
+pub mod Shares
+pub mod Totals
