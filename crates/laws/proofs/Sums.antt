@@ -23,7 +23,8 @@ sum-nothing : (n : ℕ) (g : ℕ → ℕ) → ((i : ℕ) → i < n → g i ≡ 0
 unfolding sum
 sum-nothing zero g none = refl
 sum-nothing (suc n) g none =
-    ap₂ (λ (x y : ℕ). x + y) (none 0 (suc-le-suc zero-le)) (sum-nothing n (λ (i : ℕ). g (suc i)) (λ i h. none (suc i) (suc-le-suc h)))
+    ap₂ (λ (x y : ℕ). x + y) (none 0 (suc-le-suc zero-le))
+    (sum-nothing n (λ (i : ℕ). g (suc i)) (λ i h. none (suc i) (suc-le-suc h)))
 
 -- two rules are added up one after the other
 sum-adds : (n : ℕ) (g h : ℕ → ℕ) → sum (tab n (λ (i : ℕ). g i + h i)) ≡ sum (tab n g) + sum (tab n h)
@@ -43,7 +44,8 @@ unfolding sum
 sum-one zero g m h = absurd (not-suc-le-zero h)
 sum-one (suc n) g zero h =
     ap (λ (x : ℕ). g 0 + x)
-    (sum-nothing n (λ (i : ℕ). cond (eqb (suc i) 0) (g (suc i)) 0) (λ i below. ap (λ (b : Bool). cond b (g (suc i)) 0) (eqb·suc-zero i)))
+    (sum-nothing n (λ (i : ℕ). cond (eqb (suc i) 0) (g (suc i)) 0)
+    (λ i below. ap (λ (b : Bool). cond b (g (suc i)) 0) (eqb·suc-zero i)))
     ∙ add-zero (g 0)
 sum-one (suc n) g (suc m) h =
     ap₂ (λ (x y : ℕ). x + y) (ap (λ (b : Bool). cond b (g 0) 0) (eqb·zero-suc m))
@@ -75,7 +77,8 @@ pub sum-of-two : (start a d n : ℕ) → sum (tab n (λ (i : ℕ). cond (leb sta
 unfolding sum
 sum-of-two start a d zero = sym (ap₂ (λ (x y : ℕ). x + y) (zero-mul a) (ap (λ (k : ℕ). k * d) (zero-sub start) ∙ zero-mul d))
 sum-of-two start a d (suc n) =
-    sum-last n (λ (i : ℕ). cond (leb start i) (a + d) a) ∙ omega (arith, sum-of-two start a d n, more-from start a d n, suc-mul n a)
+    sum-last n (λ (i : ℕ). cond (leb start i) (a + d) a)
+    ∙ omega (arith, sum-of-two start a d n, more-from start a d n, suc-mul n a)
 
 -- ---- over a list, by how often each number stands in it
 
@@ -85,12 +88,15 @@ counted-once-more true k x = add-mul 1 k x ∙ ap (λ (y : ℕ). y + k * x) (one
 counted-once-more false k x = add-mul 0 k x ∙ ap (λ (y : ℕ). y + k * x) (zero-mul x)
 
 -- a list of numbers below n adds up to each of them as often as it stands there
-pub sum-counted : (n : ℕ) (g : ℕ → ℕ) (l : List ℕ) → every (λ (m : ℕ). ltb m n) l ≡ true → sum (map g l) ≡ sum (tab n (λ (i : ℕ). times i l * g i))
+pub sum-counted :
+    (n : ℕ) (g : ℕ → ℕ) (l : List ℕ) → every (λ (m : ℕ). ltb m n) l ≡ true
+    → sum (map g l) ≡ sum (tab n (λ (i : ℕ). times i l * g i))
 unfolding sum times
 sum-counted n g [] small = sym (sum-nothing n (λ (i : ℕ). 0 * g i) (λ i below. zero-mul (g i)))
 sum-counted n g (m ∷ ms) small =
-    let under : m < n = ltb-true m n (and-left (ltb m n) (every (λ (k : ℕ). ltb k n) ms) small) in
-    ap₂ (λ (x y : ℕ). x + y) (sym (sum-one n g m under)) (sum-counted n g ms (and-right (ltb m n) (every (λ (k : ℕ). ltb k n) ms) small))
+    let later = every (λ (k : ℕ). ltb k n) ms in
+    let under : m < n = ltb-true m n (and-left (ltb m n) later small) in
+    ap₂ (λ (x y : ℕ). x + y) (sym (sum-one n g m under)) (sum-counted n g ms (and-right (ltb m n) later small))
     ∙ sym (sum-adds n (λ (i : ℕ). cond (eqb i m) (g i) 0) (λ (i : ℕ). times i ms * g i))
     ∙ ap sum
     (tab-alike n (λ (i : ℕ). cond (eqb i m) (g i) 0 + times i ms * g i) (λ (i : ℕ). (cond (eqb i m) 1 0 + times i ms) * g i)

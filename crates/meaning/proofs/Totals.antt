@@ -2,9 +2,9 @@
 -- First the sum of the magnitudes, then how far it is from the input, then the total with its sign. Assumes nothing.
 use mathlib.Core.Bool.{Bool, true, false, cond}
 use mathlib.Core.List.{List, [], _∷_, map}
-use mathlib.Core.Path.{_≡_, refl, sym, ap, ap₂, _∙_, subst}
+use mathlib.Core.Path.{_≡_, refl, sym, ap, ap₂, _∙_}
 use Prim.Native.Nat.{ℕ, _+_, _-_, _*_, _/_, _%_, _^_, _≤_, _<_}
-use native.Mathlib.Nat.{le-of-lt, mul-add, add-sub-of-le, div-add-mod', div-mul-le-self, lt-div-mul-add, mod-eq-of-lt}
+use native.Mathlib.Nat.{mul-add, add-sub-of-le, div-add-mod', div-mul-le-self, lt-div-mul-add, mod-eq-of-lt}
 use native.Mathlib.Omega.{arith}
 use lib.Dec.{leb}
 use lib.IntN.{ℤ, pos, negℤ, _+ℤ_, negℤ-+ℤ, pos-+ℤ-pos}
@@ -15,14 +15,14 @@ use Rattle.laws.proofs.Orders.{leb-alike}
 use Rattle.laws.proofs.Sums.{sum-of-two, small-map, sum-each-once, length-each-once, below-each-once}
 use Rattle.grid.specs.declared.Format.{Format}
 use Rattle.grid.specs.Patterns.{sign}
-use Rattle.grid.specs.Formats.{InRange, step, xmax}
+use Rattle.grid.specs.Formats.{step}
 use Rattle.grid.specs.Neighbours.{lo, hi}
 use Rattle.grid.proofs.Neighbours.{step-positive, lo-not-above}
 use Rattle.rounding.specs.declared.Mode.the-variants.{Stochastic}
 use Rattle.rounding.specs.Modes.{K, u}
 use Rattle.rounding.specs.Rounded.{rounded}
 use Rattle.rounding.proofs.Choices.{u-below}
-use Rattle.meaning.specs.Totals.{magnitudeIn, signed, numberIn, total, answers, rest, chopped, HitsTotal, EachOnce, TotalOverAll, TotalInAnyOrder}
+use Rattle.meaning.specs.Totals.{magnitudeIn, signed, numberIn, total, answers, rest, chopped, EachOnce, TotalOverAll, TotalInAnyOrder}
 use Rattle.meaning.proofs.Shares.{rest-below, shares-below, takenWith, answer-number, answer-not-infinity}
 
 -- ---- words that have each random number once
@@ -30,7 +30,8 @@ use Rattle.meaning.proofs.Shares.{rest-below, shares-below, takenWith, 
 -- there are 2^r of them
 pub each-once-length : (r : ℕ) (words : List ℕ) → EachOnce r words → length words ≡ 2 ^ r
 each-once-length r words each =
-    sym (length-map words (u r)) ∙ length-each-once (2 ^ r) (map (u r) words) (small-map (2 ^ r) (u r) (u-below r) words) (each .once)
+    sym (length-map words (u r))
+    ∙ length-each-once (2 ^ r) (map (u r) words) (small-map (2 ^ r) (u r) (u-below r) words) (each .once)
 
 -- the numbers below 2^r, in order, are such words
 pub each-once-in-order : (r : ℕ) → EachOnce r (below (2 ^ r))
@@ -43,23 +44,29 @@ each-once-in-order r = record { once = λ n small. ap (times n) same ∙ below-e
 -- ---- the sum of the magnitudes
 
 module _ (f : Format) (r a : ℕ) where
-  shares : ℕ
+  abbrev shares : ℕ
   shares = K r (rest f a) (step f a)
 
-  -- K of the 2^r random numbers, the last ones, take hi
-  taken-from : (n : ℕ) → takenWith f r a n ≡ cond (leb (2 ^ r - shares) n) (lo f a + step f a) (lo f a)
-  unfolding takenWith hi shares
-  taken-from n =
+  fewer : shares < 2 ^ r
+  fewer = shares-below r (rest f a) (step f a) (rest-below f a)
+
+  -- lo, and a step more from the random number n = 2^r - K on
+  abbrev byNumber : ℕ → ℕ
+  byNumber n = cond (leb (2 ^ r - shares) n) (lo f a + step f a) (lo f a)
+
+  -- that is what each random number takes
+  taken-by-number : (n : ℕ) → takenWith f r a n ≡ byNumber n
+  unfolding takenWith hi
+  taken-by-number n =
       ap (λ (b : Bool). cond b (lo f a + step f a) (lo f a))
-      (leb-alike (2 ^ r) (shares + n) (2 ^ r - shares) n (λ h. omega arith) (λ h. omega (arith, shares-below r (rest f a) (step f a) (rest-below f a))))
+      (leb-alike (2 ^ r) (shares + n) (2 ^ r - shares) n (λ h. omega arith) (λ h. omega (arith, fewer)))
 
   -- so all of them together take 2^r times lo, and K steps
   taken-sum : sum (tab (2 ^ r) (takenWith f r a)) ≡ chopped f r a
-  unfolding chopped shares
+  unfolding chopped
   taken-sum =
-      let fewer : shares < 2 ^ r = shares-below r (rest f a) (step f a) (rest-below f a) in
-      let left : 2 ^ r - (2 ^ r - shares) ≡ shares = omega arith in
-      ap sum (tab-alike (2 ^ r) (takenWith f r a) (λ (n : ℕ). cond (leb (2 ^ r - shares) n) (lo f a + step f a) (lo f a)) (λ n h. taken-from n))
+      let left : 2 ^ r - (2 ^ r - shares) ≡ shares = omega (arith, fewer) in
+      ap sum (tab-alike (2 ^ r) (takenWith f r a) byNumber (λ n h. taken-by-number n))
       ∙ sum-of-two (2 ^ r - shares) (lo f a) (step f a) (2 ^ r)
       ∙ ap (λ (k : ℕ). 2 ^ r * lo f a + k * step f a) left
 
@@ -99,30 +106,36 @@ unfolding signed
 signed-nothing true = refl
 signed-nothing false = refl
 
--- patterns that stand for magnitudes of one sign, by a rule of a number that each word has
+-- patterns that stand for magnitudes of one sign, each by a rule of a number that its word has
 total-signed :
-    (negative : Bool) (pattern key taken : ℕ → ℕ) → ((word : ℕ) → numberIn (pattern word) ≡ signed negative (taken (key word))) → (words : List ℕ)
-    → total (map pattern words) ≡ signed negative (sum (map taken (map key words)))
+    (negative : Bool) (pattern key taken : ℕ → ℕ) → ((word : ℕ) → numberIn (pattern word) ≡ signed negative (taken (key word)))
+    → (words : List ℕ) → total (map pattern words) ≡ signed negative (sum (map taken (map key words)))
 unfolding total sum
 total-signed negative pattern key taken stands [] = sym (signed-nothing negative)
 total-signed negative pattern key taken stands (w ∷ ws) =
     ap₂ (λ (x y : ℤ). x +ℤ y) (stands w) (total-signed negative pattern key taken stands ws)
     ∙ signed-sum negative (taken (key w)) (sum (map taken (map key ws)))
 
+-- ---- demand 3
+
+-- with words that have each random number once, in any order
 pub total-in-any-order : TotalInAnyOrder
 unfolding answers
 total-in-any-order f r x words inside most each =
     let a = magnitudeIn x in
+    let taken = takenWith f r a in
+    let answer : ℕ → ℕ = λ word. rounded f (Stochastic r) word x in
+    let small = small-map (2 ^ r) (u r) (u-below r) words in
     record {
       exact =
-          total-signed (sign x) (λ (word : ℕ). rounded f (Stochastic r) word x) (u r) (takenWith f r a) (answer-number f inside r x most) words
-          ∙ ap (signed (sign x))
-          (sum-each-once (2 ^ r) (map (u r) words) (small-map (2 ^ r) (u r) (u-below r) words) (each .once) (takenWith f r a) ∙ taken-sum f r a);
+          total-signed (sign x) answer (u r) taken (answer-number f inside r x most) words
+          ∙ ap (signed (sign x)) (sum-each-once (2 ^ r) (map (u r) words) small (each .once) taken ∙ taken-sum f r a);
       toward-zero = chopped-toward-zero f r a;
       close = chopped-close f r a;
       whole = chopped-whole f r a;
       finite = answer-not-infinity f inside r x most;
     }
 
+-- and with the words from 0 to 2^r - 1
 pub total-over-all : TotalOverAll
 total-over-all f r x inside most = total-in-any-order f r x (below (2 ^ r)) inside most (each-once-in-order r)
