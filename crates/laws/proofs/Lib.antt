@@ -5,6 +5,7 @@ pub mod Lists
 pub mod Multiples
 pub mod Orders
 pub mod Scales
+pub mod Sums
 pub mod Tables
 pub mod Tests
 pub mod Words

@@ -1,4 +1,4 @@
--- Lists of whole numbers: one made from a rule, and how often a number stands in one. Assumes nothing.
+-- Lists of whole numbers: one made from a rule, how often a number stands in one, and its sum. Assumes nothing.
 use mathlib.Core.Bool.{cond}
 use mathlib.Core.List.{List, [], _∷_}
 use Prim.Native.Nat.{ℕ, zero, suc, _+_}
@@ -17,3 +17,8 @@ below n = tab n (λ (i : ℕ). i)
 unfoldable pub times : ℕ → List ℕ → ℕ
 times n [] = 0
 times n (m ∷ ms) = cond (eqb n m) 1 0 + times n ms
+
+-- what the numbers of a list add up to
+unfoldable pub sum : List ℕ → ℕ
+sum [] = 0
+sum (m ∷ ms) = m + sum ms
