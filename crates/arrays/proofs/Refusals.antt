@@ -97,3 +97,12 @@ module _ (mode words inputs outputs : ℕ) (none : lengthsRefusal mode words inp
       go true true e h = absurd (omega arith)
       go true false e h = ltb-false words inputs e
       go false t e h = absurd (omega arith)
+
+-- and such lengths are not refused
+pub lengths-accept : (mode words inputs outputs : ℕ) → outputs ≡ inputs → (usesWords mode ≡ true → inputs ≤ words) → lengthsRefusal mode words inputs outputs ≡ 0
+unfolding lengthsRefusal
+lengths-accept mode words inputs outputs same enough = go (usesWords mode) refl
+  where
+    go : (b : Bool) → usesWords mode ≡ b → _≡_ {A = ℕ} (cond (not (eqb outputs inputs)) 5 (cond (b && ltb words inputs) 6 0)) 0
+    go true used = simp (eq-eqb outputs inputs same, le-ltb words inputs (enough used))
+    go false unused = simp (eq-eqb outputs inputs same)

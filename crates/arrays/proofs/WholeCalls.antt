@@ -27,6 +27,14 @@ use Rattle.arrays.specs.Loops.{decided, roundedByAt, roundedAllBy}
 use Rattle.arrays.proofs.Refusals.{lengths-agree, words-suffice}
 use Rattle.arrays.proofs.UnreadWords.{unused-unread}
 
+-- a call is not refused where neither its numbers nor its lengths are
+pub call-accepted : (f : Format) (mode r : ℕ) (words xs out : List ℕ) → refusal f mode r ≡ 0 → lengthsRefusal mode (length words) (length xs) (length out) ≡ 0
+    → refusalOf f mode r words xs out ≡ 0
+unfolding arrayRefusal
+call-accepted f mode r words xs out numbers lengths =
+    ap (λ (b : Bool). cond (not b) (refusal f mode r) (lengthsRefusal mode (length words) (length xs) (length out))) (eq-eqb (refusal f mode r) 0 numbers)
+    ∙ lengths
+
 -- ---- a call that is not refused
 
 module _ (f : Format) (mode r : ℕ) (words xs out : List ℕ) (none : refusalOf f mode r words xs out ≡ 0) where
@@ -62,6 +70,14 @@ module _ (f : Format) (mode r : ℕ) (words xs out : List ℕ) (none : refusalOf
   all-rounded-with z alike =
       tab-alike (length xs) (roundedByAt (settings f (modeOf mode r)) z xs) (roundedAt f (modeOf mode r) words xs) (λ i h. place-rounded z i (alike i))
       ∙ sym accepted-afterwards
+
+-- ---- a call that is refused
+
+-- holds what it held before
+pub refused-afterwards : (f : Format) (mode r : ℕ) (words xs out : List ℕ) → eqb (refusalOf f mode r words xs out) 0 ≡ false → afterwards f mode r words xs out ≡ out
+unfolding afterwards
+refused-afterwards f mode r words xs out rejected =
+    ap (λ (b : Bool). cond b (tab (length xs) (roundedAt f (modeOf mode r) words xs)) out) rejected
 
 -- ---- as the code comes to it
 
@@ -105,8 +121,8 @@ module _ (f : Format) (mode r : ℕ) (words xs out : List ℕ) (d : Prepared) (e
     refused-report = ap report (refused-is (refusalOf f mode r words xs out) (settings f (modeOf mode r)) n (sym e ∙ refused))
 
     pub refused-output : out ≡ afterwards f mode r words xs out
-    unfolding decided afterwards
+    unfolding decided
     refused-output =
         sym
-        (ap (λ (b : Bool). cond b (tab (length xs) (roundedAt f (modeOf mode r) words xs)) out)
+        (refused-afterwards f mode r words xs out
         (refused-some (refusalOf f mode r words xs out) (settings f (modeOf mode r)) n (sym e ∙ refused)))

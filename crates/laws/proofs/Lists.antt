@@ -1,10 +1,12 @@
 -- The list that a rule makes, `tab n g`: how long it is, what stands at a place, and how two rules and two lengths compare.
 -- Assumes nothing.
 use mathlib.Core.List.{List, [], _∷_, _++_, map}
-use mathlib.Core.Path.{_≡_, refl, ap, ap₂}
-use Prim.Native.Nat.{ℕ, zero, suc, _<_, zero-le, suc-le-suc}
+use mathlib.Core.Path.{_≡_, refl, sym, ap, ap₂, _∙_, subst}
+use Prim.Native.Nat.{ℕ, zero, suc, _+_, _-_, _<_, min, zero-le, suc-le-suc}
 use native.Mathlib.Nat.{le-of-suc-le-suc, not-suc-le-zero}
-use lib.ListN.{length, getD}
+use native.Mathlib.Omega.{arith}
+use lib.ListN.{length, getD, take, length-take, length-drop}
+use lib.Seq.{slice, getD-take, getD-drop, ext-getD}
 use Rattle.laws.specs.Lists.{tab}
 
 -- it has as many entries as it was asked for
@@ -34,3 +36,41 @@ map-tab {A} {B} (suc n) g h = ap {B = List B} (λ xs. h (g 0) ∷ xs) (map-tab n
 pub tab-last : {A : Type 0} (n : ℕ) (g : ℕ → A) → tab (suc n) g ≡ tab n g ++ (g n ∷ [])
 tab-last zero g = refl
 tab-last {A} (suc n) g = ap {B = List A} (λ xs. g 0 ∷ xs) (tab-last n (λ (i : ℕ). g (suc i)))
+
+-- two rules that agree at i make lists that agree there
+pub getD-tab-alike : {A : Type 0} (n : ℕ) (g h : ℕ → A) (i : ℕ) (d : A) → g i ≡ h i → getD (tab n g) i d ≡ getD (tab n h) i d
+getD-tab-alike zero g h i d same = refl
+getD-tab-alike (suc n) g h zero d same = same
+getD-tab-alike (suc n) g h (suc i) d same = getD-tab-alike n (λ (j : ℕ). g (suc j)) (λ (j : ℕ). h (suc j)) i d same
+
+-- a rule that reads a list's entries makes what is made of them
+pub tab-getD : {A B : Type 0} (h : A → B) (l : List A) (d : A) → tab (length l) (λ (i : ℕ). h (getD l i d)) ≡ map h l
+tab-getD h [] d = refl
+tab-getD {A} {B} h (x ∷ xs) d = ap {B = List B} (λ ys. h x ∷ ys) (tab-getD h xs d)
+
+-- ---- a part of a list, from one place up to another
+
+-- how long it is
+pub length-part : {A : Type 0} (from to : ℕ) (l : List A) → length (slice from to l) ≡ min to (length l) - from
+length-part from to l = length-drop from (take to l) ∙ ap (λ (n : ℕ). n - from) (length-take to l)
+
+-- what stands in it
+pub getD-part : {A : Type 0} (from to : ℕ) (l : List A) (i : ℕ) (d : A) → from + i < to → getD (slice from to l) i d ≡ getD l (from + i) d
+getD-part from to l i d before = getD-drop from (take to l) i d ∙ getD-take to l (from + i) d before
+
+-- a part of a list that a rule makes is made by the rule that begins there
+pub tab-part : {A : Type 0} (from to n : ℕ) (g : ℕ → A) (d : A) → slice from to (tab n g) ≡ tab (min to n - from) (λ (i : ℕ). g (from + i))
+tab-part {A} from to n g d = ext-getD d (slice from to (tab n g)) (tab (min to n - from) later) (long ∙ sym (length-tab (min to n - from) later)) same
+  where
+    later : ℕ → A
+    later i = g (from + i)
+
+    long : length (slice from to (tab n g)) ≡ min to n - from
+    long = length-part from to (tab n g) ∙ ap (λ (m : ℕ). min to m - from) (length-tab n g)
+
+    same : (i : ℕ) → i < length (slice from to (tab n g)) → getD (slice from to (tab n g)) i d ≡ getD (tab (min to n - from) later) i d
+    same i h =
+        let within : i < min to n - from = subst (λ (m : ℕ). i < m) long h in
+        getD-part from to (tab n g) i d (omega arith)
+        ∙ getD-tab n g (from + i) d (omega arith)
+        ∙ sym (getD-tab (min to n - from) later i d within)

@@ -68,14 +68,17 @@ module _ (f : Format) (mode r word x : ℕ) (p : Prepared) (e : p ≡ prepared f
 
 -- ---- r
 
--- a mode other than 7 is refused or not, and answers, whatever r is
-pub r-unread : (f : Format) (mode r s word x : ℕ) → (mode ≡ 7 → ⊥) → roundOne f mode r word x ≡ roundOne f mode s word x
-unfolding roundOne refusal
-r-unread f mode r s word x other =
-    ap₂ (λ (n : ℕ) (m : Mode). cond (eqb n 0) (answered (rounded f m word x)) (refused n)) same (mode-unread mode r s other)
-  where
-    number : ℕ → Bool → ℕ
-    number b seven = cond (not (precisionFits (f .p))) 1 (cond (not (exponentFits (f .emax))) 2 (cond (ltb 8 mode) 3 (cond (seven && not (bitsFit b)) 4 0)))
+module _ (f : Format) (mode r s : ℕ) (other : mode ≡ 7 → ⊥) where
+  -- a mode other than 7 is refused or not whatever r is
+  pub refusal-unread : refusal f mode r ≡ refusal f mode s
+  unfolding refusal
+  refusal-unread = ap (number r) (ne-eqb mode 7 other) ∙ sym (ap (number s) (ne-eqb mode 7 other))
+    where
+      number : ℕ → Bool → ℕ
+      number b seven = cond (not (precisionFits (f .p))) 1 (cond (not (exponentFits (f .emax))) 2 (cond (ltb 8 mode) 3 (cond (seven && not (bitsFit b)) 4 0)))
 
-    same : refusal f mode r ≡ refusal f mode s
-    same = ap (number r) (ne-eqb mode 7 other) ∙ sym (ap (number s) (ne-eqb mode 7 other))
+  -- and so is its answer
+  pub r-unread : (word x : ℕ) → roundOne f mode r word x ≡ roundOne f mode s word x
+  unfolding roundOne
+  r-unread word x =
+      ap₂ (λ (n : ℕ) (m : Mode). cond (eqb n 0) (answered (rounded f m word x)) (refused n)) refusal-unread (mode-unread mode r s other)
