@@ -1,3 +1,3 @@
 -- What facts about the answers are stated with. How to read these files stands at the head of
--- grid/specs/Lib.antt.
+-- patterns/specs/Lib.antt.
 pub mod Totals

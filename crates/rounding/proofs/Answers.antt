@@ -7,16 +7,16 @@ use Prim.Native.Nat.{ℕ, _+_, _-_, _/_, _^_, _<_}
 use native.Mathlib.Nat.{sub-self, lt-irrefl, eq-or-lt-of-le, le-of-eq}
 use lib.Dec.{leb, ltb}
 use borrow.Author.Tests.{lt-ltb, le-ltb}
+use Rattle.patterns.specs.declared.Kind.{Kind}
+use Rattle.patterns.specs.declared.Kind.the-variants.{Zero, Finite, Infinity, NaN}
+use Rattle.patterns.specs.Patterns.{sign, mag, withSign, kindOf, val}
+use Rattle.patterns.proofs.Values.{pat-val}
+use Rattle.patterns.proofs.PatternKinds.{finite-or-not}
+use Rattle.patterns.proofs.Signs.{with-own-sign, magnitude-with-sign, sign-with-sign, magnitude-is}
 use Rattle.grid.specs.declared.Format.{Format}
-use Rattle.grid.specs.declared.Kind.{Kind}
-use Rattle.grid.specs.declared.Kind.the-variants.{Zero, Finite, Infinity, NaN}
-use Rattle.grid.specs.Patterns.{sign, mag, withSign, kindOf, val}
 use Rattle.grid.specs.Formats.{InRange, step, T}
 use Rattle.grid.specs.Candidates.{Candidate}
 use Rattle.grid.specs.Neighbours.{lo, hi}
-use Rattle.grid.proofs.Values.{pat-val}
-use Rattle.grid.proofs.PatternKinds.{finite-or-not}
-use Rattle.grid.proofs.Signs.{with-own-sign, magnitude-with-sign, sign-with-sign, magnitude-is}
 use Rattle.grid.proofs.Candidates.{candidate-whole}
 use Rattle.grid.proofs.Neighbours.{lo-not-above, lo-candidate, hi-candidate}
 use Rattle.rounding.specs.declared.Mode.{Mode}

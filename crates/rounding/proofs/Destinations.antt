@@ -7,13 +7,13 @@ use Prim.Native.Nat.{ℕ, _-_, _/_, _≤_, _<_}
 use native.Mathlib.Nat.{le-refl, le-of-lt, le-of-eq, lt-irrefl, lt-of-lt-of-le, lt-of-le-of-lt, eq-or-lt-of-le}
 use borrow.Author.Tests.{lt-ltb, le-ltb, eq-eqb, ne-eqb}
 use Rattle.laws.proofs.Orders.{below-or-not}
+use Rattle.patterns.specs.Patterns.{infinity, pat, Short}
+use Rattle.patterns.proofs.Values.{binary64-finite, pat-increasing}
 use Rattle.grid.specs.declared.Format.{Format}
-use Rattle.grid.specs.Patterns.{infinity, pat, Short}
 use Rattle.grid.specs.Formats.{InRange, step, xmax, T}
 use Rattle.grid.specs.Candidates.{Candidate}
 use Rattle.grid.specs.Candidates.Candidate.{top}
 use Rattle.grid.specs.Neighbours.{lo, hi}
-use Rattle.grid.proofs.Values.{binary64-finite, pat-increasing}
 use Rattle.grid.proofs.Candidates.{candidate-short, top-not-above}
 use Rattle.grid.proofs.Neighbours.{lo-not-above, lo-below-hi, lo-candidate, hi-candidate}
 use Rattle.grid.proofs.Ends.{xmax-candidate, xmax-below-top}

@@ -6,14 +6,14 @@ use mathlib.Core.Logic.{_⊎_, inl, inr}
 use Prim.Native.Nat.{ℕ, _-_, _/_, _≤_, _<_}
 use native.Mathlib.Nat.{le-refl, le-of-lt, le-of-eq, lt-of-lt-of-le, lt-of-le-of-lt}
 use Rattle.laws.proofs.Orders.{below-or-not}
+use Rattle.patterns.specs.declared.Kind.the-variants.{Finite}
+use Rattle.patterns.specs.Patterns.{sign, mag, infinity, kindOf, val}
+use Rattle.patterns.proofs.Values.{pat-not-above, pat-not-below}
+use Rattle.patterns.proofs.PatternKinds.{finite-below, finite-or-not}
 use Rattle.grid.specs.declared.Format.{Format}
-use Rattle.grid.specs.declared.Kind.the-variants.{Finite}
-use Rattle.grid.specs.Patterns.{sign, mag, infinity, kindOf, val}
 use Rattle.grid.specs.Formats.{InRange, step, xmax, T}
 use Rattle.grid.specs.Candidates.{Candidate}
 use Rattle.grid.specs.Neighbours.{lo}
-use Rattle.grid.proofs.Values.{pat-not-above, pat-not-below}
-use Rattle.grid.proofs.PatternKinds.{finite-below, finite-or-not}
 use Rattle.grid.proofs.Candidates.{candidate-short}
 use Rattle.grid.proofs.Neighbours.{lo-not-above, hi-above}
 use Rattle.grid.proofs.Ends.{xmax-candidate, xmax-below-top}

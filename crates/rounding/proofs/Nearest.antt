@@ -9,9 +9,9 @@ use lib.Dec.{ltb, eqb}
 use borrow.Author.Tests.{ltb-true, ltb-false, leb-true, leb-false, eqb-true}
 use Rattle.laws.proofs.Orders.{below-or-not}
 use Rattle.laws.proofs.Tests.{and-left}
+use Rattle.patterns.specs.declared.Kind.the-variants.{Finite}
+use Rattle.patterns.specs.Patterns.{sign, mag, withSign, kindOf, val}
 use Rattle.grid.specs.declared.Format.{Format}
-use Rattle.grid.specs.declared.Kind.the-variants.{Finite}
-use Rattle.grid.specs.Patterns.{sign, mag, withSign, kindOf, val}
 use Rattle.grid.specs.Formats.{InRange, step, T}
 use Rattle.grid.specs.Candidates.{Candidate}
 use Rattle.grid.specs.Candidates.Candidate.{top}

@@ -3,8 +3,8 @@ use mathlib.Core.Bool.{Bool, cond}
 use mathlib.Core.Path.{_≡_, ap}
 use Prim.Native.Nat.{ℕ, _-_, _/_}
 use lib.Dec.{ltb, eqb}
+use Rattle.patterns.specs.Patterns.{sign, mag, infinity, kindOf, val, pat}
 use Rattle.grid.specs.declared.Format.{Format}
-use Rattle.grid.specs.Patterns.{sign, mag, infinity, kindOf, val, pat}
 use Rattle.grid.specs.Formats.{step, xmax, T}
 use Rattle.grid.specs.Neighbours.{lo, hi}
 use Rattle.rounding.specs.declared.Mode.{Mode}
