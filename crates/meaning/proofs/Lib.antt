@@ -1,1 +1,8 @@
--- The laws, a subject a file.
+-- The laws about the rounded patterns, a subject a file: first where a magnitude goes and what the answer to a pattern is,
+-- then what it reads of the word, and where it lies, nearest to the input or on one side of it. No proof of a function cites
+-- them.
+pub mod Destinations
+pub mod Answers
+pub mod Words
+pub mod Nearest
+pub mod Directed

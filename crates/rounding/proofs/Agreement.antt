@@ -24,8 +24,7 @@ use Rattle.grid.proofs.Candidates.{candidate-short, top-short}
 use Rattle.grid.proofs.Ends.{zeta-is-hi}
 use Rattle.grid.proofs.Steps.{step-normal, step-small, emin-normal, zeta-near}
 use Rattle.rounding.specs.declared.Mode.{Mode}
-use Rattle.rounding.specs.Modes.{takesHi, overflows}
-use Rattle.rounding.specs.Facts.{ModeFits}
+use Rattle.rounding.specs.Modes.{ModeFits, takesHi, overflows}
 use Rattle.rounding.specs.Rounded.{taken, written, goesTo, rounded, answerTo}
 use Rattle.rounding.specs.Increments.{increment}
 use Rattle.rounding.specs.BySettings.{settings, place, kept, trace, reached, moved, goesToBy, roundedBy}

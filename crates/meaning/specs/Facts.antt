@@ -1,15 +1,11 @@
--- What the facts about rounding are stated with. Units of 2^-1074. Assumes nothing.
+-- What the facts about a single answer are stated with. Units of 2^-1074. Assumes nothing.
 use mathlib.Core.Path.{_≡_}
 use Prim.Native.Nat.{ℕ, _+_, _-_, _%_, _≤_}
 use Rattle.grid.specs.declared.Format.{Format}
 use Rattle.grid.specs.Candidates.{Candidate}
 use Rattle.rounding.specs.declared.Mode.{Mode}
 use Rattle.rounding.specs.declared.Mode.the-variants.{TiesToEven, TiesToZero, TiesAway, Stochastic, EvenChance}
 use Rattle.rounding.specs.Modes.{u}
-
--- a mode is one of document 01's: stochastic rounding has 1 to 53 random bits
-abbrev pub ModeFits : Mode → Type 0
-ModeFits mode = (r : ℕ) → mode ≡ Stochastic r → (1 ≤ r) × (r ≤ 53)
 
 -- two words are alike to a mode: mode 7 looks at the last r bits, mode 8 at the last one, and no other mode at any
 pub record Alike (mode : Mode) (v w : ℕ) : Type 0 where

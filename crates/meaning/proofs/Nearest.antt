@@ -18,14 +18,14 @@ use Rattle.grid.specs.Candidates.Candidate.{top}
 use Rattle.grid.specs.Neighbours.{lo, hi}
 use Rattle.grid.proofs.Candidates.{candidate-not-above-top}
 use Rattle.grid.proofs.Neighbours.{lo-not-above, hi-above, lo-candidate, hi-candidate, hi-is-hi}
 use Rattle.rounding.specs.declared.Mode.{Mode}
 use Rattle.rounding.specs.declared.Mode.the-variants.{TiesToEven, TiesToZero, TiesAway}
 use Rattle.rounding.specs.Modes.{odd, takesHi, overflows}
 use Rattle.rounding.specs.Rounded.{taken, written, goesTo, rounded}
-use Rattle.rounding.specs.Facts.{distance, Nearest, ToNearest}
-use Rattle.rounding.specs.Facts.ToNearest.{ties-to-even, ties-to-zero, ties-away}
-use Rattle.rounding.proofs.Destinations.{top-written, taken-cases, below-goes, reached-goes}
-use Rattle.rounding.proofs.Answers.{finite-answer}
+use Rattle.meaning.specs.Facts.{distance, Nearest, ToNearest}
+use Rattle.meaning.specs.Facts.ToNearest.{ties-to-even, ties-to-zero, ties-away}
+use Rattle.meaning.proofs.Destinations.{top-written, taken-cases, below-goes, reached-goes}
+use Rattle.meaning.proofs.Answers.{finite-answer}
 
 -- ---- the table's lines
 
