@@ -1,7 +1,8 @@
--- The laws, a subject a file.
+-- The laws about array calls, a subject a file: first those by which the code is proved, then what a place depends on, and
+-- parts of arrays.
 pub mod Refusals
-pub mod Turns
 pub mod UnreadWords
+pub mod Turns
 pub mod WholeCalls
 pub mod Unique
 pub mod Places

@@ -8,9 +8,9 @@ use Rattle.rounding.specs.declared.Mode.{Mode}
 use Rattle.rounding.specs.declared.Mode.the-variants.{TiesToEven, TiesToZero, TiesAway, TowardZero, TowardPlus, TowardMinus, ToOdd, Stochastic, EvenChance}
 use Rattle.rounding.specs.Modes.{modeOf}
 use Rattle.rounding.specs.Rounded.{rounded}
-use Rattle.rounding.specs.Facts.{Alike}
+use Rattle.meaning.specs.Facts.{Alike}
 use Rattle.rounding.proofs.ModeTables.{number-cases}
-use Rattle.rounding.proofs.Words.{answer-reads}
+use Rattle.meaning.proofs.Words.{answer-reads}
 use Rattle.arrays.specs.Rounding.{usesWords}
 
 -- whether a mode looks at the word

@@ -3,7 +3,7 @@ use mathlib.Core.Bool.{true}
 use mathlib.Core.Path.{_≡_, refl}
 use lib.Ieee.{size}
 use Rattle.laws.specs.Tables.{every}
-use Rattle.grid.specs.Patterns.{sign, mag, withSign, kindOf, worth, val, pat}
+use Rattle.patterns.specs.Patterns.{sign, mag, withSign, kindOf, worth, val, pat}
 use Rattle.grid.specs.Formats.{between, precisionFits, exponentFits, emin, etop, zetaExp, stepExp, step, xmax, T}
 use Rattle.grid.specs.Neighbours.{lo, hi}
 use Rattle.rounding.specs.Modes.{modeOf, K, u, takesHi, overflows}

@@ -4,8 +4,8 @@ use mathlib.Core.Bool.{Bool, false, _&&_}
 use mathlib.Core.List.{List, [], _∷_}
 use Prim.Native.Nat.{ℕ, _-_}
 use lib.Dec.{eqb}
+use Rattle.patterns.specs.Patterns.{mag, val}
 use Rattle.grid.specs.declared.Format.{Format}
-use Rattle.grid.specs.Patterns.{mag, val}
 use Rattle.grid.specs.Formats.{step}
 use Rattle.grid.specs.Neighbours.{lo}
 use Rattle.known.specs.Table.{withSubnormals}

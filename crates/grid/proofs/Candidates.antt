@@ -13,8 +13,8 @@ use lib.Ieee.Digits.{size-lt, size-le, size-reaches}
 use Rattle.laws.proofs.Digits.{size-shift, size-pow}
 use Rattle.laws.proofs.Multiples.{multiple-whole, multiple-none, pow-whole}
 use Rattle.laws.proofs.Orders.{below-or-not}
+use Rattle.patterns.specs.Patterns.{Short, Binary64}
 use Rattle.grid.specs.declared.Format.{Format}
-use Rattle.grid.specs.Patterns.{Short, Binary64}
 use Rattle.grid.specs.Formats.{InRange, emin, etop, zetaExp, stepExp, step, smallestNormal, T}
 use Rattle.grid.specs.Candidates.{Normal, Subnormal, Candidate}
 use Rattle.grid.specs.Candidates.Candidate.{nothing, normal, subnormal, top}

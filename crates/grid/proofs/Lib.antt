@@ -1,8 +1,5 @@
--- The laws about the numbers, a subject a file.
-pub mod Values
-pub mod PatternKinds
+-- The laws about formats and their numbers, a subject a file.
 pub mod Ranges
-pub mod Signs
 pub mod Steps
 pub mod Candidates
 pub mod Neighbours

@@ -6,8 +6,8 @@ use mathlib.Core.Bool.{Bool, cond, _&&_}
 use Prim.Native.Nat.{ℕ, _+_, _-_, _*_, _^_, _≤_}
 use lib.Dec.{leb, ltb}
 use lib.Ieee.{size}
+use Rattle.patterns.specs.Patterns.{pat}
 use Rattle.grid.specs.declared.Format.{Format}
-use Rattle.grid.specs.Patterns.{pat}
 
 -- n is from least to most
 unfoldable pub between : ℕ → ℕ → ℕ → Bool

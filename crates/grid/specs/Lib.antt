@@ -1,15 +1,6 @@
--- What the numbers are. Read in the order of the lines below: a binary64 pattern, a number cut at a place, a target format,
--- what the format holds, and the two neighbours that a rounding chooses from.
---
--- How to read these files. ℕ are the whole numbers from 0, `zero` or `suc n`, which is n + 1; `-` stops at 0, and `/` and `%`
--- are quotient and remainder. `≡` is equality.
--- `leb`, `ltb` and `eqb` test ≤, < and =; `not`, `&&` and `||` are not, and, or; `cond t x y` is x where the test t holds and y
--- where not; `size n` counts the binary digits of n. `x ∷ y ∷ []` is a list, and `getD l n d` its entry with the number n,
--- counted from 0, or d past its end. `f .p` is the field p of f. A `record` holds where all its fields do, and a `data` where
--- one of its lines does. `Format` and `Kind` are declared in src/lib.rt. `unfoldable`, `abbrev` and `pub` say only who may look
--- into a definition.
-pub mod Patterns
-pub mod Places
+-- What is rounded to. Read in the order of the lines below: a target format, what the format holds, and the two neighbours
+-- that a rounding chooses from. How to read these files stands at the head of patterns/specs/Lib.antt. `Format` is declared
+-- in src/lib.rt.
 pub mod Formats
 pub mod Candidates
 pub mod Neighbours

@@ -2,7 +2,7 @@
 ghost use mathlib.Core.Path.{_≡_};
 ghost use Rattle.grid.specs.Formats.{precisionFits, exponentFits, inRange, smallestNormal, xmax, T, patternIn};
 use super::Format;
-use super::patterns::power_pattern;
+use patterns::power_pattern;
 
 // What a format out of range gets for the pattern of a landmark.
 const NO_PATTERN: u64 = 0;

@@ -8,7 +8,7 @@ use lib.IntN.{ℤ, pos, negℤ}
 use lib.Ieee.{size}
 use Rattle.laws.specs.Lists.{below, times}
 use Rattle.grid.specs.declared.Format.{Format}
-use Rattle.grid.specs.Patterns.{sign, mag, withSign, kindOf, worth, val, pat}
+use Rattle.patterns.specs.Patterns.{sign, mag, withSign, kindOf, worth, val, pat}
 use Rattle.grid.specs.Formats.{emin, etop, zetaExp, stepExp, step, T}
 use Rattle.grid.specs.Neighbours.{lo, hi}
 use Rattle.grid.proofs.Cases.{format}

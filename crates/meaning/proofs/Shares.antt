@@ -10,16 +10,16 @@ use lib.Dec.{leb, lit<}
 use lib.Pow.{pow-pos}
 use borrow.Author.Tests.{lt-leb}
 use Rattle.grid.specs.declared.Format.{Format}
-use Rattle.grid.specs.declared.Kind.{Kind}
-use Rattle.grid.specs.declared.Kind.the-variants.{Zero, Finite, Infinity, NaN}
-use Rattle.grid.specs.Patterns.{sign, mag, withSign, infinity, kindOf, val}
+use Rattle.patterns.specs.declared.Kind.{Kind}
+use Rattle.patterns.specs.declared.Kind.the-variants.{Zero, Finite, Infinity, NaN}
+use Rattle.patterns.specs.Patterns.{sign, mag, withSign, infinity, kindOf, val}
 use Rattle.grid.specs.Formats.{InRange, step, xmax, T}
 use Rattle.grid.specs.Candidates.{Candidate}
 use Rattle.grid.specs.Candidates.Candidate.{nothing}
 use Rattle.grid.specs.Neighbours.{lo, hi}
-use Rattle.grid.proofs.Values.{val-small, val-order, val-infinity, val-pat}
-use Rattle.grid.proofs.PatternKinds.{kind-zero, kind-finite, finite-positive}
-use Rattle.grid.proofs.Signs.{magnitude-with-sign, magnitude-is}
+use Rattle.patterns.proofs.Values.{val-small, val-order, val-infinity, val-pat}
+use Rattle.patterns.proofs.PatternKinds.{kind-zero, kind-finite, finite-positive}
+use Rattle.patterns.proofs.Signs.{magnitude-with-sign, magnitude-is}
 use Rattle.grid.proofs.Candidates.{candidate-whole, candidate-short, top-not-above}
 use Rattle.grid.proofs.Neighbours.{lo-not-above, hi-above, lo-candidate, hi-candidate, hi-is-hi}
 use Rattle.grid.proofs.Ends.{xmax-whole, xmax-below-top, xmax-candidate}
@@ -27,8 +27,8 @@ use Rattle.rounding.specs.declared.Mode.the-variants.{Stochastic}
 use Rattle.rounding.specs.Modes.{K, u}
 use Rattle.rounding.specs.Rounded.{written, rounded}
 use Rattle.rounding.proofs.Choices.{u-below}
-use Rattle.rounding.proofs.Destinations.{below-written, written-most}
-use Rattle.rounding.proofs.Answers.{specials-come-back, sign-kept, stochastic-answer}
+use Rattle.meaning.proofs.Destinations.{below-written, written-most}
+use Rattle.meaning.proofs.Answers.{specials-come-back, sign-kept, stochastic-answer}
 use Rattle.meaning.specs.Totals.{magnitudeIn, signed, numberIn, rest}
 
 -- ---- patterns up to xmax

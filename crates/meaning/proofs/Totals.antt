@@ -14,7 +14,7 @@ use Rattle.laws.proofs.Lists.{tab-alike, map-tab}
 use Rattle.laws.proofs.Orders.{leb-alike}
 use Rattle.laws.proofs.Sums.{sum-of-two, small-map, sum-each-once, length-each-once, below-each-once}
 use Rattle.grid.specs.declared.Format.{Format}
-use Rattle.grid.specs.Patterns.{sign}
+use Rattle.patterns.specs.Patterns.{sign}
 use Rattle.grid.specs.Formats.{step}
 use Rattle.grid.specs.Neighbours.{lo, hi}
 use Rattle.grid.proofs.Neighbours.{step-positive, lo-not-above}

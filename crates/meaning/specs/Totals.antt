@@ -6,9 +6,9 @@ use mathlib.Core.Path.{_≡_}
 use Prim.Native.Nat.{ℕ, _+_, _-_, _*_, _%_, _^_, _≤_, _<_}
 use lib.IntN.{ℤ, pos, negℤ, _+ℤ_}
 use Rattle.laws.specs.Lists.{below, times}
+use Rattle.patterns.specs.declared.Kind.the-variants.{Infinity}
+use Rattle.patterns.specs.Patterns.{sign, mag, kindOf, val}
 use Rattle.grid.specs.declared.Format.{Format}
-use Rattle.grid.specs.declared.Kind.the-variants.{Infinity}
-use Rattle.grid.specs.Patterns.{sign, mag, kindOf, val}
 use Rattle.grid.specs.Formats.{InRange, step, xmax}
 use Rattle.grid.specs.Neighbours.{lo}
 use Rattle.rounding.specs.declared.Mode.the-variants.{Stochastic}

@@ -1,2 +1,2 @@
-// What the rounded patterns are: facts about the answers. There are no functions here: the statements
-// stand in specs/ and what is proved in proofs/, a subject a file.
+// What the rounded patterns are: facts about the answers. There are no functions here: what the facts
+// are stated with stands in specs/ and what is proved in proofs/, a subject a file.

@@ -12,20 +12,19 @@ use lib.Pow.{pow-add, pow-pos, pow-mono}
 use borrow.Author.Tests.{lt-ltb, le-ltb}
 use Rattle.laws.proofs.Multiples.{clears-carry}
 use Rattle.laws.proofs.Orders.{below-or-not}
+use Rattle.patterns.specs.declared.Kind.{Kind}
+use Rattle.patterns.specs.declared.Kind.the-variants.{Zero, Finite, Infinity, NaN}
+use Rattle.patterns.specs.Patterns.{sign, mag, withSign, infinity, kindOf, val, ex, sig, digitsOf, pat, Short}
+use Rattle.patterns.specs.Places.{high}
+use Rattle.patterns.proofs.Values.{val-small, val-pat, pat-val, pattern-below, DigitCases, digit-cases}
+use Rattle.patterns.proofs.PatternKinds.{finite-positive}
 use Rattle.grid.specs.declared.Format.{Format}
-use Rattle.grid.specs.declared.Kind.{Kind}
-use Rattle.grid.specs.declared.Kind.the-variants.{Zero, Finite, Infinity, NaN}
-use Rattle.grid.specs.Patterns.{sign, mag, withSign, infinity, kindOf, val, ex, sig, digitsOf, pat, Short}
-use Rattle.grid.specs.Places.{high}
 use Rattle.grid.specs.Formats.{InRange, emin, zetaExp, zeta, stepExp, xmax, T}
-use Rattle.grid.proofs.Values.{val-small, val-pat, pat-val, pattern-below, DigitCases, digit-cases}
-use Rattle.grid.proofs.PatternKinds.{finite-positive}
 use Rattle.grid.proofs.Candidates.{candidate-short, top-short}
 use Rattle.grid.proofs.Ends.{zeta-is-hi}
 use Rattle.grid.proofs.Steps.{step-normal, step-small, emin-normal, zeta-near}
 use Rattle.rounding.specs.declared.Mode.{Mode}
-use Rattle.rounding.specs.Modes.{takesHi, overflows}
-use Rattle.rounding.specs.Facts.{ModeFits}
+use Rattle.rounding.specs.Modes.{ModeFits, takesHi, overflows}
 use Rattle.rounding.specs.Rounded.{taken, written, goesTo, rounded, answerTo}
 use Rattle.rounding.specs.Increments.{increment}
 use Rattle.rounding.specs.BySettings.{settings, place, kept, trace, reached, moved, goesToBy, roundedBy}

@@ -11,10 +11,10 @@ use lib.Dec.{leb, ltb}
 use lib.Pow.{pow-pos, pow-mono, shr-le}
 use borrow.Author.Tests.{lt-ltb, le-ltb}
 use Rattle.laws.proofs.Words.{one-shifted}
-use Rattle.grid.specs.declared.Kind.{Kind}
-use Rattle.grid.specs.declared.Kind.the-variants.{Zero, Finite, Infinity, NaN}
-use Rattle.grid.specs.Patterns.{sign, mag, withSign, infinity, kindOf, ex, sig, digitsOf}
-use Rattle.grid.specs.Places.{high}
+use Rattle.patterns.specs.declared.Kind.{Kind}
+use Rattle.patterns.specs.declared.Kind.the-variants.{Zero, Finite, Infinity, NaN}
+use Rattle.patterns.specs.Patterns.{sign, mag, withSign, infinity, kindOf, ex, sig, digitsOf}
+use Rattle.patterns.specs.Places.{high}
 use Rattle.rounding.specs.declared.Mode.{Mode}
 use Rattle.rounding.specs.declared.Settings.{Settings}
 use Rattle.rounding.specs.Modes.{overflows}

@@ -1,5 +1,5 @@
 -- The table's choice between lo and hi, for every mode: it is the choice by increment, it goes by the rest and the step only
--- up to scale, and it reads no more of the word than the mode says. Assumes nothing.
+-- up to scale, and random bits never move an exact input. Assumes nothing.
 use mathlib.Core.Bool.{Bool, true, false, not, cond, _&&_, _||_}
 use mathlib.Core.Path.{_≡_, refl, sym, ap, ap₂, _∙_, subst}
 use mathlib.Core.Logic.{_⊎_, inl, inr}
@@ -11,11 +11,10 @@ use lib.Pow.{pow-pos, pow-mono, shr-le, shr-shr}
 use borrow.Author.Tests.{lt-ltb, le-ltb, le-leb, lt-leb, eq-eqb, ne-eqb}
 use Rattle.laws.proofs.Orders.{below-or-not, leb-alike}
 use Rattle.laws.proofs.Scales.{scale-div, leb-scales, ltb-scales, eqb-scales}
-use Rattle.grid.specs.Places.{high}
+use Rattle.patterns.specs.Places.{high}
 use Rattle.rounding.specs.declared.Mode.{Mode}
 use Rattle.rounding.specs.declared.Mode.the-variants.{TiesToEven, TiesToZero, TiesAway, TowardZero, TowardPlus, TowardMinus, ToOdd, Stochastic, EvenChance}
-use Rattle.rounding.specs.Modes.{even, odd, K, u, takesHi}
-use Rattle.rounding.specs.Facts.{Alike, ModeFits}
+use Rattle.rounding.specs.Modes.{ModeFits, even, odd, K, u, takesHi}
 use Rattle.rounding.specs.Increments.{increment}
 use Rattle.rounding.specs.BySettings.{trace}
 
@@ -247,22 +246,7 @@ choice-far (Stochastic r) negative n d word fits small far =
     ∙ sym (trace-unseen n (d - 63) (63 - r) (omega arith)) ∙ sym (shares-high r (trace n (d - 63)) 63 (omega arith)))
 choice-far EvenChance negative n d word fits small far = refl
 
--- ---- the choice and the word
-
--- a mode chooses the same by two words that are alike to it
-pub choice-reads :
-    (mode : Mode) (negative : Bool) (m rest step v w : ℕ) → Alike mode v w
-    → takesHi mode negative m rest step v ≡ takesHi mode negative m rest step w
-unfolding takesHi
-choice-reads TiesToEven negative m rest step v w e = refl
-choice-reads TiesToZero negative m rest step v w e = refl
-choice-reads TiesAway negative m rest step v w e = refl
-choice-reads TowardZero negative m rest step v w e = refl
-choice-reads TowardPlus negative m rest step v w e = refl
-choice-reads TowardMinus negative m rest step v w e = refl
-choice-reads ToOdd negative m rest step v w e = refl
-choice-reads (Stochastic r) negative m rest step v w e = ap (λ (x : ℕ). leb (2 ^ r) (K r rest step + x)) (e .random r refl)
-choice-reads EvenChance negative m rest step v w e = ap (λ (x : ℕ). eqb x 1) (e .last refl)
+-- ---- the choice where nothing is left
 
 -- random bits never move an exact input: the table needs no case for it
 pub stochastic-exact : (r : ℕ) (negative : Bool) (m step word : ℕ) → takesHi (Stochastic r) negative m 0 step word ≡ false

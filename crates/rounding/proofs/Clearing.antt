@@ -12,11 +12,11 @@ use lib.Pow.{pow-add, pow-pos}
 use borrow.Author.Tests.{lt-leb, eq-eqb, ne-eqb}
 use Rattle.laws.proofs.Multiples.{clears-carry, clears-past, clears-least, clears-most}
 use Rattle.laws.proofs.Scales.{scale-div}
+use Rattle.patterns.specs.Patterns.{val, ex, sig, digitsOf}
+use Rattle.patterns.proofs.Values.{val-product, val-at, Full, sig-full}
 use Rattle.grid.specs.declared.Format.{Format}
-use Rattle.grid.specs.Patterns.{val, ex, sig, digitsOf}
 use Rattle.grid.specs.Formats.{stepExp, step}
 use Rattle.grid.specs.Neighbours.{lo, hi}
-use Rattle.grid.proofs.Values.{val-product, val-at, Full, sig-full}
 use Rattle.rounding.specs.declared.Mode.{Mode}
 use Rattle.rounding.specs.Modes.{takesHi}
 use Rattle.rounding.specs.Rounded.{taken}

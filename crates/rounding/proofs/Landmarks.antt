@@ -3,11 +3,12 @@ use mathlib.Core.Bool.{true, false}
 use mathlib.Core.Path.{_≡_, refl, sym}
 use Prim.Native.Nat.{ℕ, _+_, _-_, _≤_}
 use native.Mathlib.Omega.{arith}
+use Rattle.patterns.specs.Patterns.{powerPattern}
+use Rattle.patterns.proofs.Powers.{power-pattern-is}
 use Rattle.grid.specs.declared.Format.{Format}
-use Rattle.grid.specs.Patterns.{powerPattern}
 use Rattle.grid.specs.Formats.{inRange, InRange, emin, zetaExp, zeta, xmax, T, patternIn}
 use Rattle.grid.proofs.Ranges.{in-range-bounds}
-use Rattle.grid.proofs.Landmarks.{power-pattern-is, pattern-in-range}
+use Rattle.grid.proofs.Landmarks.{pattern-in-range}
 use Rattle.grid.proofs.Steps.{zeta-sub, zeta-no-sub, zeta-not-above}
 use Rattle.rounding.specs.declared.Mode.{Mode}
 use Rattle.rounding.specs.BySettings.{settings}

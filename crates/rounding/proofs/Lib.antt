@@ -1,11 +1,6 @@
--- The laws about rounding, a subject a file: first the choice between lo and hi and what it comes to, then that what is
--- computed is what is meant, then the laws by which the code is proved.
+-- The laws about rounding, a subject a file: first the choice between lo and hi, then that what is computed is what is meant,
+-- then the laws by which the code is proved. What is meant has its laws in the crate `meaning`.
 pub mod Choices
-pub mod Destinations
-pub mod Answers
-pub mod Words
-pub mod Nearest
-pub mod Directed
 pub mod Clearing
 pub mod Agreement
 pub mod ModeTables

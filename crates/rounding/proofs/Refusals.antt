@@ -10,8 +10,7 @@ use Rattle.grid.specs.Formats.{between, precisionFits, exponentFits, inRange}
 use Rattle.grid.proofs.Ranges.{between-least, between-most}
 use Rattle.rounding.specs.declared.Mode.{Mode}
 use Rattle.rounding.specs.declared.Mode.the-variants.{TiesToEven, TiesToZero, TiesAway, TowardZero, TowardPlus, TowardMinus, ToOdd, Stochastic, EvenChance}
-use Rattle.rounding.specs.Modes.{modeOf}
-use Rattle.rounding.specs.Facts.{ModeFits}
+use Rattle.rounding.specs.Modes.{modeOf, ModeFits}
 use Rattle.rounding.specs.Calls.{bitsFit, refusal}
 use Rattle.rounding.proofs.ModeTables.{number-cases, mode-above}
 

@@ -5,9 +5,9 @@
 use mathlib.Core.Bool.{Bool, cond}
 use Prim.Native.Nat.{ℕ, _+_, _-_, _*_, _^_, min, max}
 use lib.Dec.{leb, ltb, eqb}
+use Rattle.patterns.specs.Patterns.{sign, mag, infinity, kindOf, ex, sig, digitsOf, pat}
+use Rattle.patterns.specs.Places.{high}
 use Rattle.grid.specs.declared.Format.{Format}
-use Rattle.grid.specs.Patterns.{sign, mag, infinity, kindOf, ex, sig, digitsOf, pat}
-use Rattle.grid.specs.Places.{high}
 use Rattle.grid.specs.Formats.{emin, zetaExp, zeta, xmax, T}
 use Rattle.rounding.specs.declared.Mode.{Mode}
 use Rattle.rounding.specs.declared.Settings.{Settings}

@@ -1,7 +1,8 @@
 -- The nine modes and their two tables, a line a mode (document 01, "Rounding one pattern"). Assumes nothing.
 use mathlib.Core.Bool.{Bool, true, false, not, _&&_, _||_}
 use mathlib.Core.List.{List, [], _∷_}
-use Prim.Native.Nat.{ℕ, _+_, _*_, _/_, _%_, _^_}
+use mathlib.Core.Path.{_≡_}
+use Prim.Native.Nat.{ℕ, _+_, _*_, _/_, _%_, _^_, _≤_}
 use lib.Dec.{leb, ltb, eqb}
 use lib.ListN.{getD}
 use Rattle.rounding.specs.declared.Mode.{Mode}
@@ -24,6 +25,10 @@ modes r =
 -- the mode with a number; numbers above 8 are refused before it is asked for
 unfoldable pub modeOf : ℕ → ℕ → Mode
 modeOf number r = getD (modes r) number EvenChance
+
+-- a mode is one of document 01's: stochastic rounding has 1 to 53 random bits
+abbrev pub ModeFits : Mode → Type 0
+ModeFits mode = (r : ℕ) → mode ≡ Stochastic r → (1 ≤ r) × (r ≤ 53)
 
 abbrev pub even : ℕ → Bool
 even n = eqb (n % 2) 0

@@ -3,10 +3,10 @@
 use mathlib.Core.Bool.{Bool, cond}
 use Prim.Native.Nat.{ℕ, _-_, _/_}
 use lib.Dec.{ltb, eqb}
+use Rattle.patterns.specs.declared.Kind.{Kind}
+use Rattle.patterns.specs.declared.Kind.the-variants.{Zero, Finite, Infinity, NaN}
+use Rattle.patterns.specs.Patterns.{sign, mag, withSign, infinity, kindOf, val, pat}
 use Rattle.grid.specs.declared.Format.{Format}
-use Rattle.grid.specs.declared.Kind.{Kind}
-use Rattle.grid.specs.declared.Kind.the-variants.{Zero, Finite, Infinity, NaN}
-use Rattle.grid.specs.Patterns.{sign, mag, withSign, infinity, kindOf, val, pat}
 use Rattle.grid.specs.Formats.{step, xmax, T}
 use Rattle.grid.specs.Neighbours.{lo, hi}
 use Rattle.rounding.specs.declared.Mode.{Mode}

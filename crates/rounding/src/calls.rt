@@ -9,13 +9,13 @@ use super::derived::settings_of;
 use super::magnitudes::round_magnitude;
 use super::modes::mode_of;
 use grid::Format;
-use grid::Kind;
 use grid::exponent_fits;
-use grid::kind_of;
-use grid::magnitude_of;
 use grid::precision_fits;
-use grid::sign_of;
-use grid::with_sign;
+use patterns::Kind;
+use patterns::kind_of;
+use patterns::magnitude_of;
+use patterns::sign_of;
+use patterns::with_sign;
 
 // Whether r is from 1 to 53.
 fn bits_fit(r: u64) -> bool

@@ -6,9 +6,9 @@ ghost use Rattle.rounding.specs.BySettings.{settings};
 use super::Mode;
 use super::Settings;
 use grid::Format;
-use grid::power_pattern;
 use grid::top_pattern;
 use grid::xmax_pattern;
+use patterns::power_pattern;
 
 // The exponent of zeta: p - 1 places below the smallest normal number's with subnormals, and that
 // number's without.

@@ -7,10 +7,10 @@ use super::Mode;
 use super::Settings;
 use super::modes::increment_of;
 use super::modes::overflows_to_infinity;
-use grid::digits_of;
-use grid::exponent_of;
-use grid::high_part;
-use grid::significand_of;
+use patterns::digits_of;
+use patterns::exponent_of;
+use patterns::high_part;
+use patterns::significand_of;
 
 // The magnitude pattern of infinity.
 const INFINITY: u64 = 0x7FF0_0000_0000_0000;

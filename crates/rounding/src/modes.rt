@@ -6,8 +6,8 @@ ghost use Prim.Native.Nat.{_*_, _/_, _^_, _<_};
 ghost use Rattle.rounding.specs.Modes.{modeOf, overflows};
 ghost use Rattle.rounding.specs.Increments.{increment};
 use super::Mode;
-use grid::high_part;
-use grid::low_part;
+use patterns::high_part;
+use patterns::low_part;
 
 // The mode with this number. Numbers above 8 have been refused by then; here they are 8.
 pub(crate) fn mode_of(mode: u64, r: u64) -> Mode

@@ -1,6 +1,6 @@
 -- `rounding::calls::round_by` meets its contract. Assumes nothing.
 use borrow.Author.Needs.{needs}
-use Rattle.grid.proofs.Signs.{magnitude-below}
+use Rattle.patterns.proofs.Signs.{magnitude-below}
 use Rattle.rounding.proofs.BySettings.{zero-back, finite-rounded, infinity-back, nan-back}
 use Rattle.rounding.proofs.calls.round_by.Statement.{statement}
 use Rattle.rounding.proofs.calls.round_by.Tie as tie
