@@ -1,17 +1,26 @@
 #!/usr/bin/env bash
-# Each must-fail edit has to be refused at a promise: a complaint of the prover is about a need named
-# `returns`, `returns-2`, .., and every other one is of that kind too or follows from it ("was not
-# admitted"). A complaint about a sum that may not fit, or about a proof file that no longer has
-# the right needs, shows nothing about the answer. That the edited answer is wrong, and not only
-# another way to the right one, the prover cannot say: the edit's first line has to name the rule that
-# it breaks.
+# Each must-fail edit has to be refused at a promise or a fact. For an edit of src/ a complaint of the
+# prover is about a need named `returns`, `returns-2`, .., or about what a loop has written so far
+# (`FilledTo` in a need named `loop-holds` or `loop-again`), and every other one is of that kind too or
+# follows from it ("was not admitted"). A complaint about a sum that may not fit, or about a proof
+# file that no longer has the right needs, shows nothing about the answer. For an edit of specs/ a fact
+# that docs/PROMISES.md lists is not proved any more, and every complaint is that a law does not hold.
+# That the edited answer is wrong, and not only another way to the right one, the prover cannot say:
+# the edit's first line has to name the rule that it breaks.
 # The prover's words on each edit stand in target/must-fail/CRATE/LABEL/.log after rt ci or
 # rt must-fail.
 set -euo pipefail
 unset CDPATH
 cd "$(dirname "$0")/.."
 
-at_a_promise='(error: |\()`returns(-[0-9]+)?`'
+at_a_promise='(error: |\()`returns(-[0-9]+)?`|error: `loop-(holds|again)(-[0-9]+)?`: `search`: no proof of `FilledTo '
+at_a_law='proofs/[A-Za-z]+\.antt:[0-9]+:[0-9]+: error: `[^`]*`: (as printed, the two types differ|`omega`: the goal does not follow|`search`: no proof of)'
+follows='was not admitted'
+
+# the facts that docs/PROMISES.md lists, as the prover names them in a complaint
+listed=$(grep -E '^\| .* \| `[^|]*` \| `crates/[^|]*` \|$' docs/PROMISES.md | cut -d '|' -f 4 | grep -o '`[^`]*`' |
+    sed 's/^/error: /; s/$/:/' || true)
+
 tried=0 unfit=0
 for edit in crates/*/must-fail/*.edit; do
     crate=$(basename "$(dirname "$(dirname "$edit")")")
@@ -26,11 +35,17 @@ for edit in crates/*/must-fail/*.edit; do
         unfit=$((unfit + 1))
     }
     complaints=$(grep -E ': error|^note: .*: it is not proved that' "$log" || true)
-    elsewhere=$(grep -vE "$at_a_promise|was not admitted" <<<"$complaints" || true)
-    if ! grep -qE "$at_a_promise" <<<"$complaints" || [ -n "$elsewhere" ]; then
-        echo "$edit: refused, but not at a promise alone: ${elsewhere:-nothing was said}" >&2
+    if grep -q '^file: specs/' "$edit"; then
+        there=$at_a_law
+        grep -qF "$listed" <<<"$complaints" || complaints="no fact of docs/PROMISES.md is refused"
+    else
+        there=$at_a_promise
+    fi
+    elsewhere=$(grep -vE "$there|$follows" <<<"$complaints" || true)
+    if ! grep -qE "$there" <<<"$complaints" || [ -n "$elsewhere" ]; then
+        echo "$edit: refused, but not at a promise or a fact alone: ${elsewhere:-nothing was said}" >&2
         unfit=$((unfit + 1))
     fi
 done
-echo "must-fail edits refused at a promise: $tried tried, $unfit unfit"
+echo "must-fail edits refused at a promise or a fact: $tried tried, $unfit unfit"
 [ "$tried" -gt 0 ] && [ "$unfit" -eq 0 ]

@@ -88,16 +88,66 @@ def refusal(p, emax, mode, r):
     return 4 if mode == 7 and not 1 <= r <= 53 else 0
 
 
+def array_refusal(p, emax, mode, r, words, inputs, outputs):
+    number = refusal(p, emax, mode, r)
+    if number == 0 and outputs != inputs:
+        number = 5
+    if number == 0 and mode in (7, 8) and words < inputs:
+        number = 6
+    return number
+
+
+def array_answers(line):
+    """What the output of an array call holds afterwards, or None if the report on the line is wrong."""
+    p, emax, sub, mode, r = map(int, line.groups()[:5])
+    words, xs, held = ([int(n, 16) for n in line[k].split()] for k in (6, 7, 8))
+    number = array_refusal(p, emax, mode, r, len(words), len(xs), len(held))
+    if (int(line[9]), int(line[10])) != (number, 0):
+        return None
+    if number:
+        return held
+    words += [0] * len(xs)
+    return [rounded(p, emax, sub == 1, mode, r, w, x) for w, x in zip(words, xs)]
+
+
+def total_answers(line):
+    """The answers to one input with each random number, or None if what they add up to is not on the line."""
+    p, emax, sub, r = map(int, line.groups()[:4])
+    x, number, added, chopped = int(line[5], 16), int(line[6]), int(line[7], 16), int(line[8], 16)
+    answers = [rounded(p, emax, sub == 1, 7, r, u, x) for u in range(2**r)]
+    a = value(x & (2**63 - 1))
+    lo, hi, _ = neighbours(a, p, emax, sub == 1)
+    k = int(2**r * (a - lo) / (hi - lo))
+    total = 2**r * lo + k * (hi - lo)
+    # a line counts in units of the input's last digit
+    unit = power(max((x >> 52) % 2**11, 1) - 1075)
+    exact = sum(value(y & (2**63 - 1)) for y in answers)
+    signs = {y >> 63 for y in answers}
+    if number != 0 or signs != {x >> 63} or not added * unit == chopped * unit == exact == total:
+        return None
+    return answers
+
+
 def due(line):
-    """The answers that belong on a line behind its y=, or nothing if the line is none of the program's."""
+    """The answers that belong on a line behind its y=, or None if the rest of the line is wrong."""
     call = re.fullmatch(r'p=(\d+) emax=(\d+) mode=(\d+) r=(\d+) number=(\d+) y=.*', line)
     draw = re.fullmatch(r'p=(\d+) emax=(\d+) sub=([01]) r=(\d+) w=([0-9a-f]{16}) x=([0-9a-f]{16}) y=.*', line)
     row = re.fullmatch(r'p=(\d+) emax=(\d+) sub=([01]) x=([0-9a-f]{16}) y=.*', line)
+    array = re.fullmatch(
+        r'p=(\d+) emax=(\d+) sub=([01]) mode=(\d+) r=(\d+) w=((?: [0-9a-f]{16})*) x=((?: [0-9a-f]{16})*)'
+        r' held=((?: [0-9a-f]{16})*) number=(\d+) place=(\d+) y=.*', line)
+    total = re.fullmatch(
+        r'p=(\d+) emax=(\d+) sub=([01]) r=(\d+) x=([0-9a-f]{16}) number=(\d+) sum=([0-9a-f]{16}) chopped=([0-9a-f]{16})'
+        r' y=.*', line)
+    if array:
+        return array_answers(array)
+    if total:
+        return total_answers(total)
     if call:
         # half a step above 1 in binary16, with subnormals and word 0
         p, emax, mode, r, number = map(int, call.groups())
         if number != refusal(p, emax, mode, r):
-            return []
+            return None
         return [0 if number else rounded(p, emax, True, mode, r, 0, 0x3FF0020000000000)]
     if draw:
         p, emax, sub, r = map(int, draw.groups()[:4])
@@ -106,7 +156,7 @@ def due(line):
         p, emax, sub = map(int, row.groups()[:3])
         calls = [(mode, 0, 0) for mode in range(7)] + [(7, 2, word) for word in range(4)] + [(8, 0, 0), (8, 0, 1)]
         return [rounded(p, emax, sub == 1, mode, r, word, int(row[4], 16)) for mode, r, word in calls]
-    return []
+    return None
 
 
 def main():
@@ -119,11 +169,13 @@ def main():
         sys.exit('worked_examples.py: %s' % fault)
     answers = wrong = 0
     for number, line in enumerate(lines, 1):
-        there, right = line.partition('y=')[2].split(), ['%016x' % y for y in due(line)]
-        answers += len(right)
-        if not right or there != right:
+        there, right = line.partition('y=')[2].split(), due(line)
+        right = None if right is None else ['%016x' % y for y in right]
+        answers += len(right or [])
+        if there != right:
             wrong += 1
-            print('line %d: %s\n  due: %s' % (number, line, ' '.join(right) or 'another line'), file=sys.stderr)
+            words = 'another line' if right is None else ' '.join(right) or 'no answer'
+            print('line %d: %s\n  due: %s' % (number, line, words), file=sys.stderr)
     print('worked examples: %d answers, %d lines wrong' % (answers, wrong))
     sys.exit(answers == 0 or wrong != 0)
 

@@ -7,3 +7,5 @@ pub mod WholeCalls
 pub mod Unique
 pub mod Places
 pub mod Cuts
+pub mod Totals
+pub mod Cases

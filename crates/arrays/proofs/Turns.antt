@@ -3,11 +3,10 @@ use mathlib.Core.List.{List}
 use mathlib.Core.Path.{_≡_, sym, _∙_, subst}
 use Prim.Native.Nat.{ℕ, _+_, _≤_, _<_}
 use native.Mathlib.Nat.{le-antisymm}
-use lib.ListN.{length, getD, set}
+use lib.ListN.{length, set}
 use Rattle.laws.specs.Fills.{FilledTo}
 use Rattle.laws.proofs.Fills.{filled-none, filled-more, filled-all}
 use Rattle.rounding.specs.declared.Settings.{Settings}
-use Rattle.rounding.specs.BySettings.{roundedBy}
 use Rattle.arrays.specs.Loops.{roundedByAt, roundedAllBy}
 
 module _ (s : Settings) (words xs out : List ℕ) where
@@ -15,9 +14,8 @@ module _ (s : Settings) (words xs out : List ℕ) where
   nothing-rounded = filled-none (roundedByAt s words xs) out
 
   module _ (i : ℕ) (long : length out ≡ length xs) (filled : FilledTo (roundedByAt s words xs) i out) where
-    pub one-more-rounded : i < length xs → (y : ℕ) → y ≡ roundedBy s (getD words i 0) (getD xs i 0)
+    pub one-more-rounded : i < length xs → (y : ℕ) → y ≡ roundedByAt s words xs i
         → FilledTo (roundedByAt s words xs) (i + 1) (set out i y)
-    unfolding roundedByAt
     one-more-rounded within y is = filled-more (roundedByAt s words xs) i out y is (subst (λ (n : ℕ). i < n) (sym long) within) filled
 
     pub all-rounded : length xs ≤ i → i ≤ length xs → out ≡ roundedAllBy s words xs

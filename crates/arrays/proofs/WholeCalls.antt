@@ -60,7 +60,7 @@ module _ (f : Format) (mode r : ℕ) (words xs out : List ℕ) (none : refusalOf
   -- at each place rounding by the settings is what is meant, with that place's word or any that the mode does not look at
   place-rounded : (z : List ℕ) (i : ℕ) → rounded f (modeOf mode r) (getD z i 0) (getD xs i 0) ≡ rounded f (modeOf mode r) (getD words i 0) (getD xs i 0)
       → roundedByAt (settings f (modeOf mode r)) z xs i ≡ roundedAt f (modeOf mode r) words xs i
-  unfolding roundedByAt roundedAt
+  unfolding roundedAt
   place-rounded z i alike =
       rounded-by-settings f (in-range-bounds f (accepted-in-range f mode r 0 (sym numbers-accepted) refl)) (modeOf mode r) (accepted-mode-fits f mode r numbers-accepted) (getD z i 0) (getD xs i 0) ∙ alike
 

@@ -1,5 +1,5 @@
--- What is decided before anything is written, and what the loop writes, as they are computed from settings. That it is what is
--- meant is part of the promise of `round_array`. Assumes nothing.
+-- What the code decides before anything is written, and what its loop writes, by settings. That this is what Rounding.antt says
+-- is what the proof of `round_array` shows. Assumes nothing.
 use mathlib.Core.List.{List}
 use Prim.Native.Nat.{ℕ}
 use lib.ListN.{length, getD}
@@ -16,7 +16,7 @@ unfoldable pub decided : Format → ℕ → ℕ → ℕ → ℕ → ℕ → Prep
 decided f mode r words inputs outputs = unlessRefused (arrayRefusal f mode r words inputs outputs) (settings f (modeOf mode r))
 
 -- the answer at place i by settings
-unfoldable pub roundedByAt : Settings → List ℕ → List ℕ → ℕ → ℕ
+abbrev pub roundedByAt : Settings → List ℕ → List ℕ → ℕ → ℕ
 roundedByAt s words xs i = roundedBy s (getD words i 0) (getD xs i 0)
 
 -- every place's answer

@@ -40,7 +40,8 @@ report number = record { number = number; place = 0 }
 unfoldable pub reported : Format → ℕ → ℕ → List ℕ → List ℕ → List ℕ → Report
 reported f mode r words xs out = report (refusalOf f mode r words xs out)
 
--- the answer at place i: its own pattern rounded with its own word
+-- The answer at place i: its own pattern rounded with its own word. A mode that uses no words may have fewer of them than places:
+-- the 0 that stands for a missing one is as good as any other word then (`words-unread`).
 unfoldable pub roundedAt : Format → Mode → List ℕ → List ℕ → ℕ → ℕ
 roundedAt f mode words xs i = rounded f mode (getD words i 0) (getD xs i 0)
 

@@ -4,7 +4,7 @@ use mathlib.Core.Bool.{Bool, true, false, cond}
 use mathlib.Core.List.{List, [], _∷_, map}
 use mathlib.Core.Path.{_≡_, refl, sym, ap, ap₂, _∙_}
 use Prim.Native.Nat.{ℕ, _+_, _-_, _*_, _/_, _%_, _^_, _≤_, _<_}
-use native.Mathlib.Nat.{mul-add, add-sub-of-le, div-add-mod', div-mul-le-self, lt-div-mul-add, mod-eq-of-lt}
+use native.Mathlib.Nat.{mul-add, add-mul, mul-assoc, mul-add-div-right, add-sub-of-le, div-add-mod', div-mul-le-self, lt-div-mul-add, mod-eq-of-lt}
 use native.Mathlib.Omega.{arith}
 use lib.Dec.{leb}
 use lib.IntN.{ℤ, pos, negℤ, _+ℤ_, negℤ-+ℤ, pos-+ℤ-pos}
@@ -70,11 +70,24 @@ module _ (f : Format) (r a : ℕ) where
       ∙ sum-of-two (2 ^ r - shares) (lo f a) (step f a) (2 ^ r)
       ∙ ap (λ (k : ℕ). 2 ^ r * lo f a + k * step f a) left
 
-  -- ---- and how far it is from 2^r times the magnitude
+  -- ---- what that is, and how far it is from 2^r times the magnitude
 
-  -- which is 2^r times lo, and 2^r times the rest
+  -- the magnitude is lo and the rest, 2^r times over
   parts : 2 ^ r * lo f a + 2 ^ r * rest f a ≡ 2 ^ r * a
   parts = sym (mul-add (2 ^ r) (lo f a) (rest f a)) ∙ ap (λ (n : ℕ). 2 ^ r * n) (add-sub-of-le (lo-not-above f a))
+
+  -- what is left is 2^r times the magnitude with the digits below the step cleared
+  pub chopped-clears : chopped f r a ≡ 2 ^ r * a / step f a * step f a
+  unfolding chopped K lo
+  chopped-clears =
+      let G = step f a in
+      let m = 2 ^ r * (a / G) in
+      let n = 2 ^ r * rest f a in
+      let whole : 2 ^ r * (a / G * G) ≡ m * G = sym (mul-assoc (2 ^ r) (a / G) G) in
+      ap (λ (k : ℕ). k + n / G * G) whole
+      ∙ sym (add-mul m (n / G) G)
+      ∙ ap (λ (k : ℕ). k * G) (sym (mul-add-div-right (step-positive f a) m n))
+      ∙ ap (λ (k : ℕ). k / G * G) (ap (λ (k : ℕ). k + n) (sym whole) ∙ parts)
 
   -- not past it
   chopped-toward-zero : chopped f r a ≤ 2 ^ r * a

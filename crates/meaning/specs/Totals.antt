@@ -40,7 +40,8 @@ answers f r x words = map (λ (word : ℕ). rounded f (Stochastic r) word x) wor
 abbrev pub rest : Format → ℕ → ℕ
 rest f a = a - lo f a
 
--- 2^r times the magnitude a chopped r bits beyond the last place: that is lo + K·G / 2^r, and 2^r of it are whole
+-- 2^r times the magnitude a chopped r bits beyond the last place. What is chopped is lo + K·G / 2^r, and 2^r of it are a whole
+-- number: 2^r times a with the digits below the step cleared (`chopped-clears`).
 unfoldable pub chopped : Format → ℕ → ℕ → ℕ
 chopped f r a = 2 ^ r * lo f a + K r (rest f a) (step f a) * step f a
 
@@ -58,8 +59,9 @@ pub record HitsTotal (f : Format) (r x : ℕ) (words : List ℕ) : Type 0 where
 pub record EachOnce (r : ℕ) (words : List ℕ) : Type 0 where
   pub once : (n : ℕ) → n < 2 ^ r → times n (map (u r) words) ≡ 1
 
--- Demand 3: for every format in range, every r, and every input whose magnitude is at most xmax, with the words from 0 to
--- 2^r - 1. (Infinity's pattern and those of NaNs are worth more than xmax, so that no other input is left out.)
+-- Demand 3, with the words from 0 to 2^r - 1: for every format in range, every r, and every input whose magnitude is at most
+-- xmax, zeros among them. Infinities and NaNs are left out, since their patterns are worth more than any xmax
+-- (`up-to-xmax-finite`); numbers above xmax are too, since some of their answers are infinite.
 abbrev pub TotalOverAll : Type 0
 TotalOverAll = (f : Format) (r x : ℕ) → InRange f → magnitudeIn x ≤ xmax f → HitsTotal f r x (below (2 ^ r))
 
