@@ -1,9 +1,9 @@
 #!/usr/bin/env python3
-"""worked_examples.py FILE
+"""worked_examples.py FILE...
 
-Reads the text that the program of the crate blackboard has to write, works out every answer in it anew,
-from the rules of document 01 in exact fractions, and compares. It shares nothing with the proved code.
-Leaves with 0 only if there was at least one answer and all agree.
+Reads the texts that the programs of the crates blackboard and trials have to write, works out every answer
+in them anew, from the rules of document 01 in exact fractions, and compares. It shares nothing with the
+proved code. Leaves with 0 only if each text has at least one answer and all agree.
 """
 import re
 import sys
@@ -137,7 +137,7 @@ def due(line):
         r'p=(\d+) emax=(\d+) sub=([01]) mode=(\d+) r=(\d+) w=((?: [0-9a-f]{16})*) x=((?: [0-9a-f]{16})*)'
         r' held=((?: [0-9a-f]{16})*) number=(\d+) place=(\d+) y=.*', line)
     total = re.fullmatch(
-        r'p=(\d+) emax=(\d+) sub=([01]) r=(\d+) x=([0-9a-f]{16}) number=(\d+) sum=([0-9a-f]{16}) chopped=([0-9a-f]{16})'
+        r'p=(\d+) emax=(\d+) sub=([01]) mode=7 r=(\d+) x=([0-9a-f]{16}) number=(\d+) sum=([0-9a-f]{16}) chopped=([0-9a-f]{16})'
         r' y=.*', line)
     if array:
         return array_answers(array)
@@ -159,11 +159,10 @@ def due(line):
     return None
 
 
-def main():
-    if len(sys.argv) != 2:
-        sys.exit('usage: worked_examples.py FILE')
+def check(name):
+    """Compares every line of a text, prints the counts, and says whether all is right."""
     try:
-        with open(sys.argv[1], encoding='ascii') as text:
+        with open(name, encoding='ascii') as text:
             lines = text.read().splitlines()
     except (OSError, UnicodeDecodeError) as fault:
         sys.exit('worked_examples.py: %s' % fault)
@@ -175,9 +174,15 @@ def main():
         if there != right:
             wrong += 1
             words = 'another line' if right is None else ' '.join(right) or 'no answer'
-            print('line %d: %s\n  due: %s' % (number, line, words), file=sys.stderr)
-    print('worked examples: %d answers, %d lines wrong' % (answers, wrong))
-    sys.exit(answers == 0 or wrong != 0)
+            print('%s:%d: %s\n  due: %s' % (name, number, line, words), file=sys.stderr)
+    print('worked examples of %s: %d answers, %d lines wrong' % (name, answers, wrong))
+    return answers > 0 and wrong == 0
+
+
+def main():
+    if len(sys.argv) < 2:
+        sys.exit('usage: worked_examples.py FILE...')
+    sys.exit(not all([check(name) for name in sys.argv[1:]]))
 
 
 main()

@@ -1,6 +1,6 @@
 #!/usr/bin/env bash
-# What the program of the crate blackboard has to write is right by the rules of document 01, worked out
-# anew by tests/worked_examples.py. That the program writes it, rt check and rt ci see.
+# What the programs of the crates blackboard and trials have to write is right by the rules of document
+# 01, worked out anew by tests/worked_examples.py. That they write it, rt check and rt ci see.
 set -euo pipefail
 unset CDPATH
 cd "$(dirname "$0")/.."
@@ -12,4 +12,4 @@ if ! command -v python3 >/dev/null; then
         exit 1
     }
 fi
-python3 tests/worked_examples.py crates/blackboard/stdout
+python3 tests/worked_examples.py crates/blackboard/stdout crates/trials/stdout

@@ -14,7 +14,7 @@ fn setting(on: bool) -> u64 {
 }
 
 // Writes the settings of a format.
-pub(crate) fn print_format(format: Format) {
+fn print_format(format: Format) {
     print_number(b"p=", format.p);
     print_number(b" emax=", format.emax);
     print_number(b" sub=", setting(format.sub));

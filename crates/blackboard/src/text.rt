@@ -17,18 +17,3 @@ pub(crate) fn print_pattern(name: &[u8], n: u64) {
     print(name);
     io::print_hex(1, n, 16);
 }
-
-// Writes patterns, a blank before each.
-fn print_each(list: &[u64]) {
-    let mut i = 0;
-    while i < list.len() {
-        print_pattern(b" ", list[i]);
-        i += 1;
-    }
-}
-
-// Writes a name and patterns.
-pub(crate) fn print_patterns(name: &[u8], list: &[u64]) {
-    print(name);
-    print_each(list);
-}

@@ -1,8 +1,8 @@
 // Array calls: what is reported, and what the output held before and holds afterwards.
-use super::rows::print_format;
 use super::text::print;
 use super::text::print_number;
 use super::text::print_patterns;
+use super::text::print_settings;
 use arrays::Report;
 use arrays::round_array;
 use grid::Format;
@@ -16,13 +16,6 @@ const FIVE: [u64; 5] = [
     0xFFF0_0000_0000_0000,
     0x7FF0_0000_0000_0001,
 ];
-
-// Writes the settings of a call.
-fn print_settings(format: Format, mode: u64, r: u64) {
-    print_format(format);
-    print_number(b" mode=", mode);
-    print_number(b" r=", r);
-}
 
 // Writes what is lent to a call: words, patterns, and what the output holds.
 fn print_lent(words: &[u64], xs: &[u64], out: &[u64]) {
@@ -59,24 +52,21 @@ fn print_too_short(format: Format, mode: u64, r: u64) {
     print_array(format, mode, r, &[], &FIVE, &mut out);
 }
 
-// Nothing to round, with no words and with words that are not needed.
-pub(crate) fn of_length_0(words: &[u64]) {
+// Nothing to round, one pattern to round, and words and an r that are not looked at.
+pub(crate) fn accepted(words: &[u64]) {
     let f = known_format(0).format;
     print_array(f, 0, 0, &[], &[], &mut []);
     print_array(f, 7, 2, &[], &[], &mut []);
     print_array(f, 8, 0, words, &[], &mut []);
-}
-
-// One pattern.
-pub(crate) fn of_length_1() {
-    let f = known_format(0).format;
     let mut out = [0xA1];
     print_array(f, 2, 0, &[], &[0x3FF0_0200_0000_0000], &mut out);
     print_array(f, 7, 2, &[1], &[0x3FF0_0300_0000_0000], &mut out);
+    print_five(f, 0, 54, &[]);
+    print_five(f, 8, 54, words);
 }
 
 // Five patterns in every mode, with two random bits and more words than needed.
-pub(crate) fn of_length_5(words: &[u64]) {
+pub(crate) fn in_every_mode(words: &[u64]) {
     let mut mode = 0;
     while mode < 9 {
         print_five(known_format(0).format, mode, 2, words);
@@ -84,14 +74,7 @@ pub(crate) fn of_length_5(words: &[u64]) {
     }
 }
 
-// No word is looked at in mode 0, and no r in modes 0 and 8.
-pub(crate) fn not_looked_at(words: &[u64]) {
-    let f = known_format(0).format;
-    print_five(f, 0, 54, &[]);
-    print_five(f, 8, 54, words);
-}
-
-// Each refusal of a call that would have words enough: the output holds what it held.
+// Each refusal: the output holds what it held.
 pub(crate) fn refused(words: &[u64]) {
     let f = known_format(0).format;
     // 1: p
@@ -102,18 +85,12 @@ pub(crate) fn refused(words: &[u64]) {
     print_five(f, 9, 0, words);
     // 4: r in mode 7
     print_five(f, 7, 54, words);
-    // 6: no words in modes 7 and 8
-    print_five(f, 7, 2, &[]);
-    print_five(f, 8, 0, &[]);
-}
-
-// 5: an output that is too short, and one that is too long.
-pub(crate) fn refused_outputs() {
-    let f = known_format(0).format;
+    // 5: an output that is too short, and one that is too long
     print_too_short(f, 0, 0);
     let mut out = [0xA1, 0xA2];
     print_array(f, 0, 0, &[], &[0x3FF0_0200_0000_0000], &mut out);
-    // 6: one word too few
+    // 6: no words, and one too few
+    print_five(f, 8, 0, &[]);
     print_array(
         f,
         7,

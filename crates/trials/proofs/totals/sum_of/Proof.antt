@@ -1,9 +1,9 @@
--- `blackboard::totals::sum_of` meets its contract. Assumes nothing.
+-- `trials::totals::sum_of` meets its contract. Assumes nothing.
 use Prim.Native.Nat.{_-_, _≤_}
 use lib.ListN.{length}
 use borrow.Author.Needs.{needs}
-use Rattle.blackboard.proofs.totals.sum_of.Statement.{statement}
-use Rattle.blackboard.proofs.totals.sum_of.Tie as tie
+use Rattle.trials.proofs.totals.sum_of.Statement.{statement}
+use Rattle.trials.proofs.totals.sum_of.Tie as tie
 
 abbrev Inv-loop : tie.InvT-loop
 Inv-loop ys unit sum₀ i₀ sum i = i ≤ length ys

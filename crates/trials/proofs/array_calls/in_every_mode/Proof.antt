@@ -1,8 +1,8 @@
--- `blackboard::array_calls::of_length_5` meets its contract. Assumes nothing.
+-- `trials::array_calls::in_every_mode` meets its contract. Assumes nothing.
 use Prim.Native.Nat.{_-_, _≤_}
 use borrow.Author.Needs.{needs}
-use Rattle.blackboard.proofs.array_calls.of_length_5.Statement.{statement}
-use Rattle.blackboard.proofs.array_calls.of_length_5.Tie as tie
+use Rattle.trials.proofs.array_calls.in_every_mode.Statement.{statement}
+use Rattle.trials.proofs.array_calls.in_every_mode.Tie as tie
 
 abbrev Inv-loop : tie.InvT-loop
 Inv-loop words mode₀ mode = mode ≤ 9
@@ -13,8 +13,8 @@ abbrev μ-loop : tie.MeasureT-loop
 returns : tie.Need-returns Inv-loop μ-loop
 returns c = search needs
 
-pub of-length-5-spec : {M : Type 1} → statement M
-of-length-5-spec =
+pub in-every-mode-spec : {M : Type 1} → statement M
+in-every-mode-spec =
     tie.close
     (tie.spec
     Inv-loop

@@ -1,15 +1,14 @@
 // One input rounded in mode 7 with each random number once, and what the answers add up to.
-use super::rows::print_format;
 use super::text::print;
 use super::text::print_number;
 use super::text::print_pattern;
 use super::text::print_patterns;
+use super::text::print_settings;
 use arrays::round_array;
 use grid::Format;
 use known::known_format;
 use patterns::exponent_of;
 use patterns::high_part;
-use patterns::low_part;
 use patterns::magnitude_of;
 use patterns::significand_of;
 use std::num::wrapping_add_u64;
@@ -43,24 +42,15 @@ fn sum_of(ys: &[u64], unit: u64) -> u64 {
     sum
 }
 
-// 2^r times the input chopped r bits beyond the place d, in units of its own last digit:
-// 2^r · lo + K · G, by shifts alone.
+// 2^r times the input chopped r bits beyond the place d, in units of its own last digit: the digits
+// from r places below d on, moved up so that the last of them stands at d.
 fn chopped(x: u64, r: u64, d: u64) -> u64 {
     let n = significand_of(magnitude_of(x));
-    let lo = moved_up(high_part(n, d), d);
-    let k = high_part(moved_up(low_part(n, d), r), d);
-    wrapping_add_u64(moved_up(lo, r), moved_up(k, d))
+    moved_up(high_part(n, wrapping_sub_u64(d, r)), d)
 }
 
-// Writes what is rounded, with how many random bits.
-fn print_input(format: Format, r: u64, x: u64) {
-    print_format(format);
-    print_number(b" r=", r);
-    print_pattern(b" x=", x);
-}
-
-// Writes what the answers add up to, what they have to, where d is the place of the last kept digit in
-// the significand of x, and the answers.
+// Writes what the answers to x add up to, what they have to, where d is the place of the last kept
+// digit in the significand of x, and the answers.
 fn print_sums(r: u64, x: u64, d: u64, ys: &[u64]) {
     print_pattern(b" sum=", sum_of(ys, exponent_of(magnitude_of(x))));
     print_pattern(b" chopped=", chopped(x, r, d));
@@ -70,8 +60,9 @@ fn print_sums(r: u64, x: u64, d: u64, ys: &[u64]) {
 
 // Rounds x, which stands at every place of xs, with the first random numbers, and writes the answers.
 fn print_total(format: Format, r: u64, x: u64, d: u64, xs: &[u64], out: &mut [u64]) {
-    print_input(format, r, x);
     let report = round_array(format, 7, r, &NUMBERS, xs, out);
+    print_settings(format, 7, r);
+    print_pattern(b" x=", x);
     print_number(b" number=", report.number);
     print_sums(r, x, d, out);
 }

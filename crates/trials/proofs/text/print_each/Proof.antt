@@ -1,9 +1,9 @@
--- `blackboard::text::print_each` meets its contract. Assumes nothing.
+-- `trials::text::print_each` meets its contract. Assumes nothing.
 use Prim.Native.Nat.{_-_, _≤_}
 use lib.ListN.{length}
 use borrow.Author.Needs.{needs}
-use Rattle.blackboard.proofs.text.print_each.Statement.{statement}
-use Rattle.blackboard.proofs.text.print_each.Tie as tie
+use Rattle.trials.proofs.text.print_each.Statement.{statement}
+use Rattle.trials.proofs.text.print_each.Tie as tie
 
 abbrev Inv-loop : tie.InvT-loop
 Inv-loop list i₀ t3 i = i ≤ length list
