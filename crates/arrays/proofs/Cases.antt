@@ -1,7 +1,7 @@
 -- Closed cases that hold the definitions of an array call to document 01: its job, and each refusal in its order. antt computes
 -- both sides. Assumes nothing.
 use mathlib.Core.Bool.{true}
-use mathlib.Core.List.{List, [], _∷_}
+use mathlib.Core.List.{[], _∷_}
 use mathlib.Core.Path.{_≡_, refl}
 use Prim.Native.Nat.{ℕ}
 use lib.Ieee.{size}

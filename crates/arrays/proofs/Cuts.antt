@@ -13,8 +13,8 @@ use Rattle.grid.specs.declared.Format.{Format}
 use Rattle.rounding.specs.Modes.{modeOf}
 use Rattle.rounding.specs.Rounded.{rounded}
 use Rattle.arrays.specs.Rounding.{usesWords, refusalOf, roundedAt, afterwards}
-use Rattle.arrays.proofs.Refusals.{lengths-agree, words-suffice, lengths-accept}
-use Rattle.arrays.proofs.WholeCalls.{numbers-accepted, lengths-accepted, call-accepted, accepted-afterwards}
+use Rattle.arrays.proofs.Refusals.{lengths-agree, words-suffice, lengths-accept, numbers-accepted, lengths-accepted, call-accepted}
+use Rattle.arrays.proofs.Outcomes.{accepted-afterwards}
 
 module _ (f : Format) (mode r : ℕ) (words xs out : List ℕ) (accepted : refusalOf f mode r words xs out ≡ 0) (from to : ℕ) where
   -- the part has as many outputs as inputs

@@ -3,6 +3,7 @@
 pub mod Refusals
 pub mod UnreadWords
 pub mod Turns
+pub mod Outcomes
 pub mod WholeCalls
 pub mod Unique
 pub mod Places

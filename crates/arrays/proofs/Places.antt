@@ -9,7 +9,7 @@ use lib.Dec.{ltb, eqb}
 use lib.ListN.{length, getD, length-append, List·getD-append}
 use borrow.Author.Tests.{eqb-true, le-ltb, eq-eqb}
 use Rattle.laws.specs.Lists.{tab}
-use Rattle.laws.proofs.Lists.{length-tab, getD-tab, getD-tab-alike, tab-alike}
+use Rattle.laws.proofs.Lists.{getD-tab, getD-tab-alike, tab-alike}
 use Rattle.grid.specs.declared.Format.{Format}
 use Rattle.rounding.specs.declared.Mode.{Mode}
 use Rattle.rounding.specs.Modes.{modeOf}
@@ -18,11 +18,11 @@ use Rattle.rounding.specs.Calls.{refusal, answered, refused, roundOne}
 use Rattle.rounding.proofs.ModeTables.{mode-unread}
 use Rattle.rounding.proofs.Refusals.{accepted-mode-known}
 use Rattle.rounding.proofs.WholeCalls.{refusal-unread}
-use Rattle.arrays.specs.declared.Report.{Report}
 use Rattle.arrays.specs.Rounding.{usesWords, lengthsRefusal, arrayRefusal, refusalOf, report, reported, roundedAt, afterwards}
 use Rattle.arrays.specs.Facts.{SameBut}
 use Rattle.arrays.proofs.UnreadWords.{unused-unread}
-use Rattle.arrays.proofs.WholeCalls.{numbers-accepted, accepted-afterwards, refused-afterwards}
+use Rattle.arrays.proofs.Refusals.{numbers-accepted}
+use Rattle.arrays.proofs.Outcomes.{accepted-afterwards, refused-afterwards}
 
 -- ---- two calls that are decided alike
 

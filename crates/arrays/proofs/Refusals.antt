@@ -1,8 +1,10 @@
 -- The refusals of an array call, as the code comes to them, and what a call that is not refused may lean on. Assumes nothing.
-use mathlib.Core.Bool.{Bool, true, false, cond, not, _&&_, _||_, false≢true}
-use mathlib.Core.Path.{_≡_, refl, sym, ap, _∙_}
+use mathlib.Core.Bool.{Bool, true, false, cond, not, _&&_}
+use mathlib.Core.List.{List}
+use mathlib.Core.Path.{_≡_, refl, sym, ap, _∙_, subst}
 use Prim.Native.Nat.{ℕ, _≤_, _<_}
 use lib.Dec.{ltb, eqb}
+use lib.ListN.{length}
 use native.Mathlib.Omega.{arith}
 use borrow.Author.Tests.{not-true, not-false, ltb-false, eqb-true, lt-ltb, le-ltb, eq-eqb, ne-eqb}
 use Rattle.grid.specs.declared.Format.{Format}
@@ -13,7 +15,7 @@ use Rattle.rounding.specs.Modes.{modeOf}
 use Rattle.rounding.specs.Calls.{refusal}
 use Rattle.rounding.specs.BySettings.{settings, unlessRefused, prepared}
 use Rattle.rounding.proofs.Preparations.{ready-none, ready-settings, refused-is, refused-some}
-use Rattle.arrays.specs.Rounding.{usesWords, lengthsRefusal, arrayRefusal}
+use Rattle.arrays.specs.Rounding.{usesWords, lengthsRefusal, arrayRefusal, refusalOf}
 use Rattle.arrays.specs.Loops.{decided}
 
 -- ---- which modes use words
@@ -106,3 +108,30 @@ lengths-accept mode words inputs outputs same enough = go (usesWords mode) refl
     go : (b : Bool) → usesWords mode ≡ b → _≡_ {A = ℕ} (cond (not (eqb outputs inputs)) 5 (cond (b && ltb words inputs) 6 0)) 0
     go true used = simp (eq-eqb outputs inputs same, le-ltb words inputs (enough used))
     go false unused = simp (eq-eqb outputs inputs same)
+
+-- ---- a whole call
+
+module _ (f : Format) (mode r : ℕ) (words xs out : List ℕ) where
+  -- the refusal that the lengths of its arrays give
+  abbrev byLengths : ℕ
+  byLengths = lengthsRefusal mode (length words) (length xs) (length out)
+
+  -- is refused neither by its numbers nor by its lengths where it is not refused
+  numbers-decide : (b : Bool) → eqb (refusal f mode r) 0 ≡ b → cond (not b) (refusal f mode r) byLengths ≡ 0 → refusal f mode r ≡ 0
+  numbers-decide true e none = eqb-true (refusal f mode r) 0 e
+  numbers-decide false e none = none
+
+  pub numbers-accepted : refusalOf f mode r words xs out ≡ 0 → refusal f mode r ≡ 0
+  unfolding arrayRefusal
+  numbers-accepted = numbers-decide (eqb (refusal f mode r) 0) refl
+
+  pub lengths-accepted : refusalOf f mode r words xs out ≡ 0 → lengthsRefusal mode (length words) (length xs) (length out) ≡ 0
+  unfolding arrayRefusal
+  lengths-accepted none =
+      subst (λ (b : Bool). cond (not b) (refusal f mode r) byLengths ≡ 0) (eq-eqb (refusal f mode r) 0 (numbers-accepted none)) none
+
+  -- and is not refused where they are not
+  pub call-accepted : refusal f mode r ≡ 0 → lengthsRefusal mode (length words) (length xs) (length out) ≡ 0 → refusalOf f mode r words xs out ≡ 0
+  unfolding arrayRefusal
+  call-accepted numbers lengths =
+      ap (λ (b : Bool). cond (not b) (refusal f mode r) byLengths) (eq-eqb (refusal f mode r) 0 numbers) ∙ lengths

@@ -1,5 +1,5 @@
 -- Demand 3 for an array call: one input at every place, and words that have each random number once. Assumes nothing.
-use mathlib.Core.List.{List, map}
+use mathlib.Core.List.{List}
 use mathlib.Core.Path.{_≡_, refl, sym, ap, _∙_}
 use Prim.Native.Nat.{ℕ, _≤_}
 use lib.ListN.{length, getD, replicate, length-replicate, getD-replicate}
@@ -16,7 +16,8 @@ use Rattle.rounding.proofs.Refusals.{accepted-in-range}
 use Rattle.meaning.specs.Totals.{magnitudeIn, signed, total, answers, chopped, EachOnce}
 use Rattle.meaning.proofs.Totals.{total-in-any-order}
 use Rattle.arrays.specs.Rounding.{refusalOf, roundedAt, afterwards}
-use Rattle.arrays.proofs.WholeCalls.{numbers-accepted, accepted-afterwards}
+use Rattle.arrays.proofs.Refusals.{numbers-accepted}
+use Rattle.arrays.proofs.Outcomes.{accepted-afterwards}
 
 module _ (f : Format) (r x : ℕ) (words out : List ℕ) (accepted : refusalOf f 7 r words (replicate (length words) x) out ≡ 0) where
   -- the output is the list of answers that demand 3 adds up

@@ -1,0 +1,62 @@
+-- What the output holds after a call: every place's answer where the call is accepted, by whatever way it was rounded, and what
+-- it held where the call is refused. Assumes nothing.
+use mathlib.Core.Bool.{Bool, false, cond}
+use mathlib.Core.List.{List}
+use mathlib.Core.Path.{_≡_, refl, sym, ap, _∙_}
+use Prim.Native.Nat.{ℕ}
+use lib.Dec.{eqb}
+use lib.ListN.{length, getD}
+use borrow.Author.Tests.{eq-eqb}
+use Rattle.laws.specs.Lists.{tab}
+use Rattle.laws.proofs.Lists.{tab-alike}
+use Rattle.grid.specs.declared.Format.{Format}
+use Rattle.grid.proofs.Ranges.{in-range-bounds}
+use Rattle.rounding.specs.Modes.{modeOf}
+use Rattle.rounding.specs.Rounded.{rounded}
+use Rattle.rounding.specs.BySettings.{settings, roundedBy}
+use Rattle.rounding.proofs.Refusals.{accepted-in-range, accepted-mode-known, accepted-mode-fits}
+use Rattle.rounding.proofs.Agreement.{rounded-by-settings}
+use Rattle.arrays.specs.Rounding.{usesWords, refusalOf, roundedAt, afterwards}
+use Rattle.arrays.specs.Loops.{roundedByAt, roundedAllBy}
+use Rattle.arrays.proofs.Refusals.{numbers-accepted}
+use Rattle.arrays.proofs.UnreadWords.{unused-unread}
+
+module _ (f : Format) (mode r : ℕ) (words xs out : List ℕ) where
+  -- a refused call leaves what there was
+  pub refused-afterwards : eqb (refusalOf f mode r words xs out) 0 ≡ false → afterwards f mode r words xs out ≡ out
+  unfolding afterwards
+  refused-afterwards rejected = ap (λ (b : Bool). cond b (tab (length xs) (roundedAt f (modeOf mode r) words xs)) out) rejected
+
+  module _ (none : refusalOf f mode r words xs out ≡ 0) where
+    -- an accepted one leaves every place's answer
+    pub accepted-afterwards : afterwards f mode r words xs out ≡ tab (length xs) (roundedAt f (modeOf mode r) words xs)
+    unfolding afterwards
+    accepted-afterwards =
+        ap (λ (b : Bool). cond b (tab (length xs) (roundedAt f (modeOf mode r) words xs)) out)
+        (eq-eqb (refusalOf f mode r words xs out) 0 none)
+
+    -- what rounding by the settings of an accepted call answers
+    by-settings : (word x : ℕ) → roundedBy (settings f (modeOf mode r)) word x ≡ rounded f (modeOf mode r) word x
+    by-settings word x =
+        let numbers = numbers-accepted f mode r words xs out none in
+        rounded-by-settings f (in-range-bounds f (accepted-in-range f mode r 0 (sym numbers) refl)) (modeOf mode r)
+        (accepted-mode-fits f mode r numbers) word x
+
+    -- rounding every place by them, with its own word or with one that is as good, leaves the same
+    all-rounded-with : (others : List ℕ)
+        → ((i : ℕ) → rounded f (modeOf mode r) (getD others i 0) (getD xs i 0) ≡ rounded f (modeOf mode r) (getD words i 0) (getD xs i 0))
+        → roundedAllBy (settings f (modeOf mode r)) others xs ≡ afterwards f mode r words xs out
+    unfolding roundedAllBy roundedAt
+    all-rounded-with others alike =
+        tab-alike (length xs) (roundedByAt (settings f (modeOf mode r)) others xs) (roundedAt f (modeOf mode r) words xs)
+        (λ i h. by-settings (getD others i 0) (getD xs i 0) ∙ alike i)
+        ∙ sym accepted-afterwards
+
+    pub rounded-with-words : roundedAllBy (settings f (modeOf mode r)) words xs ≡ afterwards f mode r words xs out
+    rounded-with-words = all-rounded-with words (λ i. refl)
+
+    -- in a mode that uses no words the patterns themselves are as good as any
+    pub rounded-without-words : usesWords mode ≡ false → roundedAllBy (settings f (modeOf mode r)) xs xs ≡ afterwards f mode r words xs out
+    rounded-without-words unused =
+        let known = accepted-mode-known f mode r (numbers-accepted f mode r words xs out none) in
+        all-rounded-with xs (λ i. unused-unread f mode r (getD xs i 0) (getD words i 0) (getD xs i 0) known unused)
