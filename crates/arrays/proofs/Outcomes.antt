@@ -16,7 +16,7 @@ use Rattle.rounding.specs.Rounded.{rounded}
 use Rattle.rounding.specs.BySettings.{settings, roundedBy}
 use Rattle.rounding.proofs.Refusals.{accepted-in-range, accepted-mode-known, accepted-mode-fits}
 use Rattle.rounding.proofs.Agreement.{rounded-by-settings}
-use Rattle.arrays.specs.Rounding.{usesWords, refusalOf, roundedAt, afterwards}
+use Rattle.arrays.specs.Rounding.{usesWords, arrayRefusal, refusalOf, roundedAt, afterwards}
 use Rattle.arrays.specs.Loops.{roundedByAt, roundedAllBy}
 use Rattle.arrays.proofs.Refusals.{numbers-accepted}
 use Rattle.arrays.proofs.UnreadWords.{unused-unread}
@@ -34,6 +34,14 @@ module _ (f : Format) (mode r : ℕ) (words xs out : List ℕ) where
     accepted-afterwards =
         ap (λ (b : Bool). cond b (tab (length xs) (roundedAt f (modeOf mode r) words xs)) out)
         (eq-eqb (refusalOf f mode r words xs out) 0 none)
+
+    -- whatever the output held before
+    pub held-unread : (held : List ℕ) → length held ≡ length out → afterwards f mode r words xs held ≡ afterwards f mode r words xs out
+    unfolding afterwards
+    held-unread held long =
+        ap (λ (b : Bool). cond b (tab (length xs) (roundedAt f (modeOf mode r) words xs)) held)
+        (eq-eqb (refusalOf f mode r words xs held) 0 (ap (arrayRefusal f mode r (length words) (length xs)) long ∙ none))
+        ∙ sym accepted-afterwards
 
     -- what rounding by the settings of an accepted call answers
     by-settings : (word x : ℕ) → roundedBy (settings f (modeOf mode r)) word x ≡ rounded f (modeOf mode r) word x
