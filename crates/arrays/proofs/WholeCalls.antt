@@ -11,13 +11,13 @@ use Rattle.laws.specs.Lists.{tab}
 use Rattle.laws.proofs.Lists.{tab-alike}
 use Rattle.grid.specs.declared.Format.{Format}
 use Rattle.grid.proofs.Ranges.{in-range-bounds}
-use Rattle.rounding.specs.declared.Settings.{Settings}
+use Rattle.magnitudes.specs.declared.Settings.{Settings}
+use Rattle.magnitudes.specs.Modes.{modeOf}
+use Rattle.magnitudes.specs.BySettings.{settings}
 use Rattle.rounding.specs.declared.Prepared.{Prepared}
 use Rattle.rounding.specs.declared.Prepared.the-variants.{Ready, Refused}
-use Rattle.rounding.specs.Modes.{modeOf}
 use Rattle.rounding.specs.Rounded.{rounded}
 use Rattle.rounding.specs.Calls.{refusal}
-use Rattle.rounding.specs.BySettings.{settings}
 use Rattle.rounding.proofs.Preparations.{ready-none, ready-settings, refused-is, refused-some}
 use Rattle.rounding.proofs.Refusals.{accepted-in-range, accepted-mode-known, accepted-mode-fits}
 use Rattle.rounding.proofs.Agreement.{rounded-by-settings}
