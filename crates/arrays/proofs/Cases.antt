@@ -9,8 +9,9 @@ use Rattle.patterns.specs.Patterns.{sign, mag, withSign, kindOf, worth, val, pa
 use Rattle.grid.specs.Formats.{between, precisionFits, exponentFits, emin, etop, zetaExp, stepExp, step, T}
 use Rattle.grid.specs.Neighbours.{lo, hi}
 use Rattle.grid.proofs.Cases.{format}
-use Rattle.rounding.specs.Modes.{modeOf, K, u, takesHi}
-use Rattle.rounding.specs.Rounded.{taken, written, goesTo, answerTo, rounded}
+use Rattle.magnitudes.specs.Modes.{modeOf, K, u, takesHi}
+use Rattle.magnitudes.specs.Destinations.{taken, written, goesTo}
+use Rattle.rounding.specs.Rounded.{answerTo, rounded}
 use Rattle.rounding.specs.Calls.{bitsFit, refusal}
 use Rattle.arrays.specs.Rounding.{usesWords, lengthsRefusal, arrayRefusal, report, reported, roundedAt, afterwards}
 

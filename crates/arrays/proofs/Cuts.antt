@@ -10,7 +10,7 @@ use lib.Seq.{slice}
 use Rattle.laws.specs.Lists.{tab}
 use Rattle.laws.proofs.Lists.{tab-alike, length-part, getD-part, tab-part}
 use Rattle.grid.specs.declared.Format.{Format}
-use Rattle.rounding.specs.Modes.{modeOf}
+use Rattle.magnitudes.specs.Modes.{modeOf}
 use Rattle.rounding.specs.Rounded.{rounded}
 use Rattle.arrays.specs.Rounding.{usesWords, refusalOf, roundedAt, afterwards}
 use Rattle.arrays.proofs.Refusals.{lengths-agree, words-suffice, lengths-accept, numbers-accepted, lengths-accepted, call-accepted}

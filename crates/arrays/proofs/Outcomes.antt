@@ -11,9 +11,10 @@ use Rattle.laws.specs.Lists.{tab}
 use Rattle.laws.proofs.Lists.{tab-alike}
 use Rattle.grid.specs.declared.Format.{Format}
 use Rattle.grid.proofs.Ranges.{in-range-bounds}
-use Rattle.rounding.specs.Modes.{modeOf}
+use Rattle.magnitudes.specs.Modes.{modeOf}
 use Rattle.rounding.specs.Rounded.{rounded}
-use Rattle.rounding.specs.BySettings.{settings, roundedBy}
+use Rattle.magnitudes.specs.BySettings.{settings}
+use Rattle.rounding.specs.BySettings.{roundedBy}
 use Rattle.rounding.proofs.Refusals.{accepted-in-range, accepted-mode-known, accepted-mode-fits}
 use Rattle.rounding.proofs.Agreement.{rounded-by-settings}
 use Rattle.arrays.specs.Rounding.{usesWords, arrayRefusal, refusalOf, roundedAt, afterwards}

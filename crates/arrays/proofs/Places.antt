@@ -11,11 +11,11 @@ use borrow.Author.Tests.{eqb-true, le-ltb, eq-eqb}
 use Rattle.laws.specs.Lists.{tab}
 use Rattle.laws.proofs.Lists.{getD-tab, getD-tab-alike, tab-alike}
 use Rattle.grid.specs.declared.Format.{Format}
-use Rattle.rounding.specs.declared.Mode.{Mode}
-use Rattle.rounding.specs.Modes.{modeOf}
+use Rattle.magnitudes.specs.declared.Mode.{Mode}
+use Rattle.magnitudes.specs.Modes.{modeOf}
+use Rattle.magnitudes.proofs.ModeTables.{mode-unread}
 use Rattle.rounding.specs.Rounded.{rounded}
 use Rattle.rounding.specs.Calls.{refusal, answered, refused, roundOne}
-use Rattle.rounding.proofs.ModeTables.{mode-unread}
 use Rattle.rounding.proofs.Refusals.{accepted-mode-known}
 use Rattle.rounding.proofs.WholeCalls.{refusal-unread}
 use Rattle.arrays.specs.Rounding.{usesWords, lengthsRefusal, arrayRefusal, refusalOf, report, reported, roundedAt, afterwards}

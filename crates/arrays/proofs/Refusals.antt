@@ -8,12 +8,13 @@ use lib.ListN.{length}
 use native.Mathlib.Omega.{arith}
 use borrow.Author.Tests.{not-true, not-false, ltb-false, eqb-true, lt-ltb, le-ltb, eq-eqb, ne-eqb}
 use Rattle.grid.specs.declared.Format.{Format}
-use Rattle.rounding.specs.declared.Settings.{Settings}
+use Rattle.magnitudes.specs.declared.Settings.{Settings}
+use Rattle.magnitudes.specs.Modes.{modeOf}
+use Rattle.magnitudes.specs.BySettings.{settings}
 use Rattle.rounding.specs.declared.Prepared.{Prepared}
 use Rattle.rounding.specs.declared.Prepared.the-variants.{Ready, Refused}
-use Rattle.rounding.specs.Modes.{modeOf}
 use Rattle.rounding.specs.Calls.{refusal}
-use Rattle.rounding.specs.BySettings.{settings, unlessRefused, prepared}
+use Rattle.rounding.specs.BySettings.{unlessRefused, prepared}
 use Rattle.rounding.proofs.Preparations.{ready-none, ready-settings, refused-is, refused-some}
 use Rattle.arrays.specs.Rounding.{usesWords, lengthsRefusal, arrayRefusal, refusalOf}
 use Rattle.arrays.specs.Loops.{decided}

@@ -9,8 +9,8 @@ use Rattle.patterns.specs.Patterns.{sign}
 use Rattle.grid.specs.declared.Format.{Format}
 use Rattle.grid.specs.Formats.{xmax}
 use Rattle.grid.proofs.Ranges.{in-range-bounds}
-use Rattle.rounding.specs.declared.Mode.the-variants.{Stochastic}
-use Rattle.rounding.specs.Modes.{modeOf}
+use Rattle.magnitudes.specs.declared.Mode.the-variants.{Stochastic}
+use Rattle.magnitudes.specs.Modes.{modeOf}
 use Rattle.rounding.specs.Rounded.{rounded}
 use Rattle.rounding.proofs.Refusals.{accepted-in-range}
 use Rattle.meaning.specs.Totals.{magnitudeIn, signed, total, answers, chopped, EachOnce}

@@ -6,7 +6,7 @@ use native.Mathlib.Nat.{le-antisymm}
 use lib.ListN.{length, set}
 use Rattle.laws.specs.Fills.{FilledTo}
 use Rattle.laws.proofs.Fills.{filled-none, filled-more, filled-all}
-use Rattle.rounding.specs.declared.Settings.{Settings}
+use Rattle.magnitudes.specs.declared.Settings.{Settings}
 use Rattle.arrays.specs.Loops.{roundedByAt, roundedAllBy}
 
 module _ (s : Settings) (words xs out : List ℕ) where

@@ -4,12 +4,12 @@ use mathlib.Core.Path.{_≡_, refl, sym, ap, _∙_}
 use Prim.Native.Nat.{ℕ, zero, suc, _≤_}
 use native.Mathlib.Omega.{arith}
 use Rattle.grid.specs.declared.Format.{Format}
-use Rattle.rounding.specs.declared.Mode.{Mode}
-use Rattle.rounding.specs.declared.Mode.the-variants.{TiesToEven, TiesToZero, TiesAway, TowardZero, TowardPlus, TowardMinus, ToOdd, Stochastic, EvenChance}
-use Rattle.rounding.specs.Modes.{modeOf}
+use Rattle.magnitudes.specs.declared.Mode.{Mode}
+use Rattle.magnitudes.specs.declared.Mode.the-variants.{TiesToEven, TiesToZero, TiesAway, TowardZero, TowardPlus, TowardMinus, ToOdd, Stochastic, EvenChance}
+use Rattle.magnitudes.specs.Modes.{modeOf}
+use Rattle.magnitudes.proofs.ModeTables.{number-cases}
 use Rattle.rounding.specs.Rounded.{rounded}
 use Rattle.meaning.specs.Facts.{Alike}
-use Rattle.rounding.proofs.ModeTables.{number-cases}
 use Rattle.meaning.proofs.Words.{answer-reads}
 use Rattle.arrays.specs.Rounding.{usesWords}
 

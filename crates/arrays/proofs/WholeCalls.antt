@@ -6,11 +6,11 @@ use mathlib.Core.Path.{_≡_, sym, ap, _∙_}
 use Prim.Native.Nat.{ℕ, _≤_}
 use lib.ListN.{length}
 use Rattle.grid.specs.declared.Format.{Format}
-use Rattle.rounding.specs.declared.Settings.{Settings}
+use Rattle.magnitudes.specs.declared.Settings.{Settings}
 use Rattle.rounding.specs.declared.Prepared.{Prepared}
 use Rattle.rounding.specs.declared.Prepared.the-variants.{Ready, Refused}
-use Rattle.rounding.specs.Modes.{modeOf}
-use Rattle.rounding.specs.BySettings.{settings}
+use Rattle.magnitudes.specs.Modes.{modeOf}
+use Rattle.magnitudes.specs.BySettings.{settings}
 use Rattle.rounding.proofs.Preparations.{ready-none, ready-settings, refused-is, refused-some}
 use Rattle.arrays.specs.Rounding.{usesWords, refusalOf, report, reported, afterwards}
 use Rattle.arrays.specs.Loops.{decided, roundedAllBy}

@@ -5,10 +5,11 @@ use Prim.Native.Nat.{ℕ}
 use lib.ListN.{length, getD}
 use Rattle.laws.specs.Lists.{tab}
 use Rattle.grid.specs.declared.Format.{Format}
-use Rattle.rounding.specs.declared.Settings.{Settings}
+use Rattle.magnitudes.specs.declared.Settings.{Settings}
+use Rattle.magnitudes.specs.Modes.{modeOf}
+use Rattle.magnitudes.specs.BySettings.{settings}
 use Rattle.rounding.specs.declared.Prepared.{Prepared}
-use Rattle.rounding.specs.Modes.{modeOf}
-use Rattle.rounding.specs.BySettings.{settings, roundedBy, unlessRefused}
+use Rattle.rounding.specs.BySettings.{roundedBy, unlessRefused}
 use Rattle.arrays.specs.Rounding.{arrayRefusal}
 
 -- the settings to round by, or the number of the first refusal that applies, by the three lengths

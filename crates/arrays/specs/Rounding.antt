@@ -7,8 +7,8 @@ use lib.Dec.{ltb, eqb}
 use lib.ListN.{length, getD}
 use Rattle.laws.specs.Lists.{tab}
 use Rattle.grid.specs.declared.Format.{Format}
-use Rattle.rounding.specs.declared.Mode.{Mode}
-use Rattle.rounding.specs.Modes.{modeOf}
+use Rattle.magnitudes.specs.declared.Mode.{Mode}
+use Rattle.magnitudes.specs.Modes.{modeOf}
 use Rattle.rounding.specs.Rounded.{rounded}
 use Rattle.rounding.specs.Calls.{refusal}
 use Rattle.arrays.specs.declared.Report.{Report}

@@ -3,7 +3,7 @@ ghost use mathlib.Core.Path.{_≡_};
 ghost use Prim.Native.Nat.{_≤_, _<_};
 ghost use lib.ListN.{length};
 ghost use Rattle.arrays.specs.Loops.{roundedByAt, roundedAllBy};
-use rounding::Settings;
+use magnitudes::Settings;
 use rounding::round_by;
 
 // The answer at place i: its own pattern, with its own word.

@@ -6,8 +6,9 @@ use Rattle.laws.specs.Tables.{every}
 use Rattle.patterns.specs.Patterns.{sign, mag, withSign, kindOf, worth, val, pat}
 use Rattle.grid.specs.Formats.{between, precisionFits, exponentFits, emin, etop, zetaExp, stepExp, step, xmax, T}
 use Rattle.grid.specs.Neighbours.{lo, hi}
-use Rattle.rounding.specs.Modes.{modeOf, K, u, takesHi, overflows}
-use Rattle.rounding.specs.Rounded.{taken, written, goesTo, answerTo, rounded}
+use Rattle.magnitudes.specs.Modes.{modeOf, K, u, takesHi, overflows}
+use Rattle.magnitudes.specs.Destinations.{taken, written, goesTo}
+use Rattle.rounding.specs.Rounded.{answerTo, rounded}
 use Rattle.rounding.specs.Calls.{bitsFit, refusal, roundOne}
 use Rattle.blackboard.specs.Examples.{answers, sharesAt, holds, starred}
 

@@ -9,8 +9,8 @@ use Rattle.grid.specs.declared.Format.{Format}
 use Rattle.grid.specs.Formats.{step}
 use Rattle.grid.specs.Neighbours.{lo}
 use Rattle.known.specs.Table.{withSubnormals}
+use Rattle.magnitudes.specs.Modes.{K}
 use Rattle.rounding.specs.declared.Answer.{Answer}
-use Rattle.rounding.specs.Modes.{K}
 use Rattle.rounding.specs.Calls.{roundOne}
 
 abbrev pub binary16 : Format

@@ -19,11 +19,12 @@ use Rattle.grid.specs.Candidates.{Candidate}
 use Rattle.grid.specs.Neighbours.{lo, hi}
 use Rattle.grid.proofs.Candidates.{candidate-whole}
 use Rattle.grid.proofs.Neighbours.{lo-not-above, lo-candidate, hi-candidate}
-use Rattle.rounding.specs.declared.Mode.{Mode}
-use Rattle.rounding.specs.declared.Mode.the-variants.{Stochastic}
-use Rattle.rounding.specs.Modes.{K, u, takesHi}
-use Rattle.rounding.specs.Rounded.{taken, written, goesTo, answerTo, rounded}
-use Rattle.rounding.proofs.Choices.{stochastic-exact}
+use Rattle.magnitudes.specs.declared.Mode.{Mode}
+use Rattle.magnitudes.specs.declared.Mode.the-variants.{Stochastic}
+use Rattle.magnitudes.specs.Modes.{K, u, takesHi}
+use Rattle.magnitudes.specs.Destinations.{taken, written, goesTo}
+use Rattle.magnitudes.proofs.Choices.{stochastic-exact}
+use Rattle.rounding.specs.Rounded.{answerTo, rounded}
 use Rattle.meaning.proofs.Destinations.{below-written, exact-taken, choice-taken, below-goes, written-most, written-apart, goes-to-candidate, goes-most}
 
 module _ (f : Format) (mode : Mode) (word x : ℕ) where

@@ -12,8 +12,9 @@ use Rattle.patterns.specs.Patterns.{sign, mag, withSign, kindOf, worth, val, pa
 use Rattle.grid.specs.Formats.{emin, etop, zetaExp, stepExp, step, T}
 use Rattle.grid.specs.Neighbours.{lo, hi}
 use Rattle.grid.proofs.Cases.{format}
-use Rattle.rounding.specs.Modes.{K, u, takesHi}
-use Rattle.rounding.specs.Rounded.{taken, written, goesTo, answerTo, rounded}
+use Rattle.magnitudes.specs.Modes.{K, u, takesHi}
+use Rattle.magnitudes.specs.Destinations.{taken, written, goesTo}
+use Rattle.rounding.specs.Rounded.{answerTo, rounded}
 use Rattle.meaning.specs.Totals.{magnitudeIn, signed, numberIn, total, answers, rest, chopped}
 
 abbrev binary16 : Format

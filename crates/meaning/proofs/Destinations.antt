@@ -17,9 +17,9 @@ use Rattle.grid.specs.Neighbours.{lo, hi}
 use Rattle.grid.proofs.Candidates.{candidate-short, top-not-above}
 use Rattle.grid.proofs.Neighbours.{lo-not-above, lo-below-hi, lo-candidate, hi-candidate}
 use Rattle.grid.proofs.Ends.{xmax-candidate, xmax-below-top}
-use Rattle.rounding.specs.declared.Mode.{Mode}
-use Rattle.rounding.specs.Modes.{takesHi, overflows}
-use Rattle.rounding.specs.Rounded.{taken, written, goesTo}
+use Rattle.magnitudes.specs.declared.Mode.{Mode}
+use Rattle.magnitudes.specs.Modes.{takesHi, overflows}
+use Rattle.magnitudes.specs.Destinations.{taken, written, goesTo}
 
 -- ---- how a candidate is written
 

@@ -17,10 +17,11 @@ use Rattle.grid.specs.Neighbours.{lo}
 use Rattle.grid.proofs.Candidates.{candidate-short}
 use Rattle.grid.proofs.Neighbours.{lo-not-above, hi-above}
 use Rattle.grid.proofs.Ends.{xmax-candidate, xmax-below-top}
-use Rattle.rounding.specs.declared.Mode.{Mode}
-use Rattle.rounding.specs.declared.Mode.the-variants.{TowardZero, TowardPlus, TowardMinus}
-use Rattle.rounding.specs.Modes.{takesHi, overflows}
-use Rattle.rounding.specs.Rounded.{taken, written, goesTo, rounded}
+use Rattle.magnitudes.specs.declared.Mode.{Mode}
+use Rattle.magnitudes.specs.declared.Mode.the-variants.{TowardZero, TowardPlus, TowardMinus}
+use Rattle.magnitudes.specs.Modes.{takesHi, overflows}
+use Rattle.magnitudes.specs.Destinations.{taken, written, goesTo}
+use Rattle.rounding.specs.Rounded.{rounded}
 use Rattle.meaning.proofs.Destinations.{below-written, reached-written, taken-cases, below-goes, reached-goes, taken-candidate}
 use Rattle.meaning.proofs.Answers.{specials-come-back, magnitude-answered}
 

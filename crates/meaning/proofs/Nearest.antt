@@ -18,10 +18,11 @@ use Rattle.grid.specs.Candidates.Candidate.{top}
 use Rattle.grid.specs.Neighbours.{lo, hi}
 use Rattle.grid.proofs.Candidates.{candidate-not-above-top}
 use Rattle.grid.proofs.Neighbours.{lo-not-above, hi-above, lo-candidate, hi-candidate, hi-is-hi}
-use Rattle.rounding.specs.declared.Mode.{Mode}
-use Rattle.rounding.specs.declared.Mode.the-variants.{TiesToEven, TiesToZero, TiesAway}
-use Rattle.rounding.specs.Modes.{odd, takesHi, overflows}
-use Rattle.rounding.specs.Rounded.{taken, written, goesTo, rounded}
+use Rattle.magnitudes.specs.declared.Mode.{Mode}
+use Rattle.magnitudes.specs.declared.Mode.the-variants.{TiesToEven, TiesToZero, TiesAway}
+use Rattle.magnitudes.specs.Modes.{odd, takesHi, overflows}
+use Rattle.magnitudes.specs.Destinations.{taken, written, goesTo}
+use Rattle.rounding.specs.Rounded.{rounded}
 use Rattle.meaning.specs.Facts.{distance, Nearest, ToNearest}
 use Rattle.meaning.specs.Facts.ToNearest.{ties-to-even, ties-to-zero, ties-away}
 use Rattle.meaning.proofs.Destinations.{top-written, taken-cases, below-goes, reached-goes}

@@ -23,10 +23,11 @@ use Rattle.patterns.proofs.Signs.{magnitude-with-sign, magnitude-is}
 use Rattle.grid.proofs.Candidates.{candidate-whole, candidate-short, top-not-above}
 use Rattle.grid.proofs.Neighbours.{lo-not-above, hi-above, lo-candidate, hi-candidate, hi-is-hi}
 use Rattle.grid.proofs.Ends.{xmax-whole, xmax-below-top, xmax-candidate}
-use Rattle.rounding.specs.declared.Mode.the-variants.{Stochastic}
-use Rattle.rounding.specs.Modes.{K, u}
-use Rattle.rounding.specs.Rounded.{written, rounded}
-use Rattle.rounding.proofs.Choices.{u-below}
+use Rattle.magnitudes.specs.declared.Mode.the-variants.{Stochastic}
+use Rattle.magnitudes.specs.Modes.{K, u}
+use Rattle.magnitudes.specs.Destinations.{written}
+use Rattle.magnitudes.proofs.Choices.{u-below}
+use Rattle.rounding.specs.Rounded.{rounded}
 use Rattle.meaning.proofs.Destinations.{below-written, written-most}
 use Rattle.meaning.proofs.Answers.{specials-come-back, sign-kept, stochastic-answer}
 use Rattle.meaning.specs.Totals.{magnitudeIn, signed, numberIn, rest}

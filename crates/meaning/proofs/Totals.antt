@@ -18,10 +18,10 @@ use Rattle.patterns.specs.Patterns.{sign}
 use Rattle.grid.specs.Formats.{step}
 use Rattle.grid.specs.Neighbours.{lo, hi}
 use Rattle.grid.proofs.Neighbours.{step-positive, lo-not-above}
-use Rattle.rounding.specs.declared.Mode.the-variants.{Stochastic}
-use Rattle.rounding.specs.Modes.{K, u}
+use Rattle.magnitudes.specs.declared.Mode.the-variants.{Stochastic}
+use Rattle.magnitudes.specs.Modes.{K, u}
+use Rattle.magnitudes.proofs.Choices.{u-below}
 use Rattle.rounding.specs.Rounded.{rounded}
-use Rattle.rounding.proofs.Choices.{u-below}
 use Rattle.meaning.specs.Totals.{magnitudeIn, signed, numberIn, total, answers, rest, chopped, EachOnce, TotalOverAll, TotalInAnyOrder}
 use Rattle.meaning.proofs.Shares.{rest-below, shares-below, takenWith, answer-number, answer-not-infinity}
 

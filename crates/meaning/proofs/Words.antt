@@ -8,10 +8,11 @@ use Rattle.patterns.specs.Patterns.{sign, mag, infinity, kindOf, val, pat}
 use Rattle.grid.specs.declared.Format.{Format}
 use Rattle.grid.specs.Formats.{step, xmax, T}
 use Rattle.grid.specs.Neighbours.{lo, hi}
-use Rattle.rounding.specs.declared.Mode.{Mode}
-use Rattle.rounding.specs.declared.Mode.the-variants.{TiesToEven, TiesToZero, TiesAway, TowardZero, TowardPlus, TowardMinus, ToOdd, Stochastic, EvenChance}
-use Rattle.rounding.specs.Modes.{K, takesHi, overflows}
-use Rattle.rounding.specs.Rounded.{taken, written, goesTo, answerTo, rounded}
+use Rattle.magnitudes.specs.declared.Mode.{Mode}
+use Rattle.magnitudes.specs.declared.Mode.the-variants.{TiesToEven, TiesToZero, TiesAway, TowardZero, TowardPlus, TowardMinus, ToOdd, Stochastic, EvenChance}
+use Rattle.magnitudes.specs.Modes.{K, takesHi, overflows}
+use Rattle.magnitudes.specs.Destinations.{taken, written, goesTo}
+use Rattle.rounding.specs.Rounded.{answerTo, rounded}
 use Rattle.meaning.specs.Facts.{Alike}
 
 -- a mode chooses the same by two words that are alike to it

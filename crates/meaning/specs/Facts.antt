@@ -3,9 +3,9 @@ use mathlib.Core.Path.{_≡_}
 use Prim.Native.Nat.{ℕ, _+_, _-_, _%_, _≤_}
 use Rattle.grid.specs.declared.Format.{Format}
 use Rattle.grid.specs.Candidates.{Candidate}
-use Rattle.rounding.specs.declared.Mode.{Mode}
-use Rattle.rounding.specs.declared.Mode.the-variants.{TiesToEven, TiesToZero, TiesAway, Stochastic, EvenChance}
-use Rattle.rounding.specs.Modes.{u}
+use Rattle.magnitudes.specs.declared.Mode.{Mode}
+use Rattle.magnitudes.specs.declared.Mode.the-variants.{TiesToEven, TiesToZero, TiesAway, Stochastic, EvenChance}
+use Rattle.magnitudes.specs.Modes.{u}
 
 -- two words are alike to a mode: mode 7 looks at the last r bits, mode 8 at the last one, and no other mode at any
 pub record Alike (mode : Mode) (v w : ℕ) : Type 0 where

@@ -11,8 +11,8 @@ use Rattle.patterns.specs.Patterns.{sign, mag, kindOf, val}
 use Rattle.grid.specs.declared.Format.{Format}
 use Rattle.grid.specs.Formats.{InRange, step, xmax}
 use Rattle.grid.specs.Neighbours.{lo}
-use Rattle.rounding.specs.declared.Mode.the-variants.{Stochastic}
-use Rattle.rounding.specs.Modes.{K, u}
+use Rattle.magnitudes.specs.declared.Mode.the-variants.{Stochastic}
+use Rattle.magnitudes.specs.Modes.{K, u}
 use Rattle.rounding.specs.Rounded.{rounded}
 
 -- the magnitude of a finite pattern

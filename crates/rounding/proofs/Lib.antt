@@ -1,11 +1,6 @@
--- The laws about rounding, a subject a file: first the choice between lo and hi, then that what is computed is what is meant,
--- then the laws by which the code is proved. What is meant has its laws in the crate `meaning`.
-pub mod Choices
-pub mod Clearing
+-- The laws about rounding a pattern, a subject a file: first that what is computed is what is meant, then the laws by which the
+-- code is proved. Those about magnitudes are in the crate `magnitudes`, and those about what is meant in the crate `meaning`.
 pub mod Agreement
-pub mod ModeTables
-pub mod Increments
-pub mod Landmarks
 pub mod BySettings
 pub mod Preparations
 pub mod Refusals

@@ -4,7 +4,7 @@ use mathlib.Core.Path.{_≡_, refl, sym, ap}
 use Prim.Native.Nat.{ℕ}
 use lib.Dec.{eqb}
 use borrow.Author.Tests.{eqb-true}
-use Rattle.rounding.specs.declared.Settings.{Settings}
+use Rattle.magnitudes.specs.declared.Settings.{Settings}
 use Rattle.rounding.specs.declared.Prepared.{Prepared}
 use Rattle.rounding.specs.declared.Prepared.the-variants.{Ready, Refused}
 use Rattle.rounding.specs.BySettings.{unlessRefused, numberOf}

@@ -8,11 +8,11 @@ use borrow.Author.Tests.{lt-ltb, le-ltb, ltb-false, eq-eqb, ne-eqb}
 use Rattle.grid.specs.declared.Format.{Format}
 use Rattle.grid.specs.Formats.{between, precisionFits, exponentFits, inRange}
 use Rattle.grid.proofs.Ranges.{between-least, between-most}
-use Rattle.rounding.specs.declared.Mode.{Mode}
-use Rattle.rounding.specs.declared.Mode.the-variants.{TiesToEven, TiesToZero, TiesAway, TowardZero, TowardPlus, TowardMinus, ToOdd, Stochastic, EvenChance}
-use Rattle.rounding.specs.Modes.{modeOf, ModeFits}
+use Rattle.magnitudes.specs.declared.Mode.{Mode}
+use Rattle.magnitudes.specs.declared.Mode.the-variants.{TiesToEven, TiesToZero, TiesAway, TowardZero, TowardPlus, TowardMinus, ToOdd, Stochastic, EvenChance}
+use Rattle.magnitudes.specs.Modes.{modeOf, ModeFits}
+use Rattle.magnitudes.proofs.ModeTables.{number-cases, mode-above}
 use Rattle.rounding.specs.Calls.{bitsFit, refusal}
-use Rattle.rounding.proofs.ModeTables.{number-cases, mode-above}
 
 -- ---- one test after the other
 

@@ -7,15 +7,16 @@ use borrow.Author.Tests.{eq-eqb, ne-eqb}
 use Rattle.grid.specs.declared.Format.{Format}
 use Rattle.grid.specs.Formats.{precisionFits, exponentFits}
 use Rattle.grid.proofs.Ranges.{in-range-bounds}
-use Rattle.rounding.specs.declared.Mode.{Mode}
-use Rattle.rounding.specs.declared.Settings.{Settings}
+use Rattle.magnitudes.specs.declared.Mode.{Mode}
+use Rattle.magnitudes.specs.declared.Settings.{Settings}
+use Rattle.magnitudes.specs.Modes.{modeOf}
+use Rattle.magnitudes.specs.BySettings.{settings}
+use Rattle.magnitudes.proofs.ModeTables.{mode-unread}
 use Rattle.rounding.specs.declared.Prepared.{Prepared}
 use Rattle.rounding.specs.declared.Prepared.the-variants.{Ready, Refused}
-use Rattle.rounding.specs.Modes.{modeOf}
 use Rattle.rounding.specs.Rounded.{rounded}
-use Rattle.rounding.specs.BySettings.{settings, roundedBy, unlessRefused, prepared, numberOf}
+use Rattle.rounding.specs.BySettings.{roundedBy, unlessRefused, prepared, numberOf}
 use Rattle.rounding.specs.Calls.{bitsFit, refusal, answered, refused, roundOne}
-use Rattle.rounding.proofs.ModeTables.{mode-unread}
 use Rattle.rounding.proofs.Refusals.{accepted-in-range, accepted-mode-fits}
 use Rattle.rounding.proofs.Preparations.{ready-none, ready-settings, refused-is, refused-some}
 use Rattle.rounding.proofs.Agreement.{rounded-by-settings}

@@ -4,8 +4,8 @@ use Prim.Native.Nat.{ℕ}
 use lib.Dec.{ltb, eqb}
 use Rattle.grid.specs.declared.Format.{Format}
 use Rattle.grid.specs.Formats.{between, precisionFits, exponentFits}
+use Rattle.magnitudes.specs.Modes.{modeOf}
 use Rattle.rounding.specs.declared.Answer.{Answer}
-use Rattle.rounding.specs.Modes.{modeOf}
 use Rattle.rounding.specs.Rounded.{rounded}
 
 -- r runs from 1 to 53

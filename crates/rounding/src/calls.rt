@@ -4,17 +4,15 @@ ghost use Rattle.rounding.specs.BySettings.{roundedBy, prepared, numberO
 ghost use Rattle.rounding.specs.Calls.{bitsFit, refusal, roundOne};
 use super::Answer;
 use super::Prepared;
-use super::Settings;
 use super::derived::settings_of;
-use super::magnitudes::round_magnitude;
-use super::modes::mode_of;
 use grid::Format;
 use grid::exponent_fits;
 use grid::precision_fits;
+use magnitudes::Settings;
+use magnitudes::mode_of;
+use magnitudes::round_magnitude;
 use patterns::Kind;
 use patterns::kind_of;
-use patterns::magnitude_of;
-use patterns::sign_of;
 use patterns::with_sign;
 
 // Whether r is from 1 to 53.
@@ -66,7 +64,7 @@ pub fn round_by(s: Settings, word: u64, x: u64) -> u64
     match kind_of(x) {
         Kind::Zero => x,
         Kind::Finite => {
-            let m = round_magnitude(s, sign_of(x), word, magnitude_of(x));
+            let m = round_magnitude(s, word, x);
             with_sign(x, m)
         }
         Kind::Infinity => x,

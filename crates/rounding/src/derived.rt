@@ -2,12 +2,12 @@
 ghost use mathlib.Core.Bool.{true};
 ghost use mathlib.Core.Path.{_≡_};
 ghost use Rattle.grid.specs.Formats.{inRange, zetaExp};
-ghost use Rattle.rounding.specs.BySettings.{settings};
-use super::Mode;
-use super::Settings;
+ghost use Rattle.magnitudes.specs.BySettings.{settings};
 use grid::Format;
 use grid::top_pattern;
 use grid::xmax_pattern;
+use magnitudes::Mode;
+use magnitudes::Settings;
 use patterns::power_pattern;
 
 // The exponent of zeta: p - 1 places below the smallest normal number's with subnormals, and that

@@ -1,12 +1,8 @@
 -- `rounding::calls::round_by` meets its contract. Assumes nothing.
 use borrow.Author.Needs.{needs}
-use Rattle.patterns.proofs.Signs.{magnitude-below}
 use Rattle.rounding.proofs.BySettings.{zero-back, finite-rounded, infinity-back, nan-back}
 use Rattle.rounding.proofs.calls.round_by.Statement.{statement}
 use Rattle.rounding.proofs.calls.round_by.Tie as tie
-
-round-magnitude-requires : tie.Need-round-magnitude-requires
-round-magnitude-requires c κs = search magnitude-below
 
 returns : tie.Need-returns
 returns c = search zero-back
@@ -28,8 +24,6 @@ round-by-spec =
     (λ c. search needs)
     (λ c. search needs)
     (λ c κs. search needs)
-    (λ c κs. search needs)
-    round-magnitude-requires
     (λ c κs. search needs)
     (λ c. search needs)
     (λ c. search needs)
