@@ -138,7 +138,7 @@ def due(line):
         r' held=((?: [0-9a-f]{16})*) number=(\d+) place=(\d+) y=.*', line)
     total = re.fullmatch(
         r'p=(\d+) emax=(\d+) sub=([01]) mode=7 r=(\d+) x=([0-9a-f]{16}) number=(\d+) sum=([0-9a-f]{16}) chopped=([0-9a-f]{16})'
-        r' y=.*', line)
+        r' same=1 y=.*', line)
     if array:
         return array_answers(array)
     if total:

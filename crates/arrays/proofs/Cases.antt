@@ -15,7 +15,8 @@ use Rattle.rounding.specs.Rounded.{answerTo, rounded}
 use Rattle.rounding.specs.Calls.{bitsFit, refusal}
 use Rattle.arrays.specs.Rounding.{usesWords, lengthsRefusal, arrayRefusal, report, reported, roundedAt, afterwards}
 
--- document 01's job: two inputs between 3 and 3.25, whose share is 5/8, with the words on either side of 2^r - K
+-- document 01's job: one input twice, whose rest is 3/8 of the step from 3 to 3.25, so that K is 3, with the words 4 and 5: just
+-- below 2^r - K, and at it
 job : afterwards (format 4 15 true) 7 3 (4 ∷ 5 ∷ []) (0x4008_C000_0000_0000 ∷ 0x4008_C000_0000_0000 ∷ []) (0 ∷ 0 ∷ [])
     ≡ 0x4008_0000_0000_0000 ∷ 0x400A_0000_0000_0000 ∷ []
 unfolding afterwards roundedAt arrayRefusal lengthsRefusal usesWords refusal bitsFit precisionFits exponentFits between modeOf

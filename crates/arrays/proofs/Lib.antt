@@ -1,5 +1,5 @@
--- The laws about array calls, a subject a file: first those by which the code is proved, then what a place depends on, and
--- parts of arrays.
+-- The laws about array calls, a subject a file: first those by which the code is proved, then what a place depends on, parts of
+-- arrays, the total of stochastic rounding, and closed cases.
 pub mod Refusals
 pub mod UnreadWords
 pub mod Turns

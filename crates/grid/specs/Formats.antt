@@ -1,5 +1,5 @@
--- The target format and the few numbers that follow from its settings (document 01, "The target format"). Among the
--- definitions only this file and Candidates.antt look at p and emax: what comes after goes by the names of this one.
+-- The target format and the few numbers that follow from its settings (document 01, "The target format"). Of this
+-- crate's definitions only this file and Candidates.antt look at p and emax: what comes after goes by the names of this one.
 -- Magnitudes are in units of 2^-1074. Exponents are counted from there too: document 01's e is written e + 1074, so that
 -- emin = 1 - emax is 1075 - emax (decision 1). Assumes nothing.
 use mathlib.Core.Bool.{Bool, cond, _&&_}

@@ -1,4 +1,4 @@
--- The definitions that more than one crate states its facts with.
+-- The definitions that any crate may state its facts with.
 pub mod Fills
 pub mod Lists
 pub mod Promises

@@ -1,2 +1,2 @@
-// Facts on powers, digits and tables that any crate may cite. There are no functions here: what is
+// Facts on powers, digits, lists and tables that any crate may cite. There are no functions here: what is
 // proved stands in proofs/, a subject a file, and proofs/Lib.antt lists the subjects.

@@ -184,8 +184,17 @@ module _ (f : Format) (inside : InRange f) (r x : ℕ) (most : magnitudeIn x ≤
   unfolding numberIn
   answer-number = ap₂ signed (sign-kept f (Stochastic r) word x) answer-magnitude
 
-  -- no answer is infinite
+  -- it is not above xmax
+  answer-most : magnitudeIn (rounded f (Stochastic r) word x) ≤ xmax f
+  answer-most = subst (λ (m : ℕ). m ≤ xmax f) (sym answer-magnitude) within
+
+  -- so it is a zero or a finite number
+  pub answer-finite : (kindOf (rounded f (Stochastic r) word x) ≡ Zero) ⊎ (kindOf (rounded f (Stochastic r) word x) ≡ Finite)
+  answer-finite = up-to-xmax-finite f inside (rounded f (Stochastic r) word x) answer-most
+
+  -- and neither an infinity nor a NaN
   pub answer-not-infinity : kindOf (rounded f (Stochastic r) word x) ≡ Infinity → ⊥
-  answer-not-infinity =
-      up-to-xmax-not-infinity f inside (rounded f (Stochastic r) word x)
-      (subst (λ (m : ℕ). m ≤ xmax f) (sym answer-magnitude) within)
+  answer-not-infinity = up-to-xmax-not-infinity f inside (rounded f (Stochastic r) word x) answer-most
+
+  pub answer-not-nan : kindOf (rounded f (Stochastic r) word x) ≡ NaN → ⊥
+  answer-not-nan = up-to-xmax-not-nan f inside (rounded f (Stochastic r) word x) answer-most

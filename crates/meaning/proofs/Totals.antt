@@ -23,7 +23,7 @@ use Rattle.magnitudes.specs.Modes.{K, u}
 use Rattle.magnitudes.proofs.Choices.{u-below}
 use Rattle.rounding.specs.Rounded.{rounded}
 use Rattle.meaning.specs.Totals.{magnitudeIn, signed, numberIn, total, answers, rest, chopped, EachOnce, TotalOverAll, TotalInAnyOrder}
-use Rattle.meaning.proofs.Shares.{rest-below, shares-below, takenWith, answer-number, answer-not-infinity}
+use Rattle.meaning.proofs.Shares.{rest-below, shares-below, takenWith, answer-number, answer-finite}
 
 -- ---- words that have each random number once
 
@@ -146,7 +146,7 @@ total-in-any-order f r x words inside most each =
       toward-zero = chopped-toward-zero f r a;
       close = chopped-close f r a;
       whole = chopped-whole f r a;
-      finite = answer-not-infinity f inside r x most;
+      finite = answer-finite f inside r x most;
     }
 
 -- and with the words from 0 to 2^r - 1

@@ -3,10 +3,11 @@
 use mathlib.Core.Bool.{Bool, cond}
 use mathlib.Core.List.{List, [], _∷_, map}
 use mathlib.Core.Path.{_≡_}
+use mathlib.Core.Logic.{_⊎_}
 use Prim.Native.Nat.{ℕ, _+_, _-_, _*_, _%_, _^_, _≤_, _<_}
 use lib.IntN.{ℤ, pos, negℤ, _+ℤ_}
 use Rattle.laws.specs.Lists.{below, times}
-use Rattle.patterns.specs.declared.Kind.the-variants.{Infinity}
+use Rattle.patterns.specs.declared.Kind.the-variants.{Zero, Finite}
 use Rattle.patterns.specs.Patterns.{sign, mag, kindOf, val}
 use Rattle.grid.specs.declared.Format.{Format}
 use Rattle.grid.specs.Formats.{InRange, step, xmax}
@@ -45,15 +46,18 @@ rest f a = a - lo f a
 unfoldable pub chopped : Format → ℕ → ℕ → ℕ
 chopped f r a = 2 ^ r * lo f a + K r (rest f a) (step f a) * step f a
 
--- Demand 3 for one input and a list of words. The answers add up to 2^r times the chopped input, exactly and with its sign. So
--- the total misses 2^r times the input by less than one step, toward zero, and by nothing where nothing was chopped, which is
--- where G divides 2^r times the rest. No answer is infinite.
+-- what demand 3 asks for one input and a list of words
 pub record HitsTotal (f : Format) (r x : ℕ) (words : List ℕ) : Type 0 where
+  -- the answers add up to 2^r times the chopped input, exactly and with its sign
   pub exact : total (answers f r x words) ≡ signed (sign x) (chopped f r (magnitudeIn x))
+  -- so the total is not beyond 2^r times the input: it errs toward zero
   pub toward-zero : chopped f r (magnitudeIn x) ≤ 2 ^ r * magnitudeIn x
+  -- by less than one step
   pub close : 2 ^ r * magnitudeIn x < chopped f r (magnitudeIn x) + step f (magnitudeIn x)
+  -- and by nothing where nothing was chopped, which is where the step divides 2^r times the rest
   pub whole : 2 ^ r * rest f (magnitudeIn x) % step f (magnitudeIn x) ≡ 0 → chopped f r (magnitudeIn x) ≡ 2 ^ r * magnitudeIn x
-  pub finite : (word : ℕ) → kindOf (rounded f (Stochastic r) word x) ≡ Infinity → ⊥
+  -- each answer is a zero or a finite number, so none is infinite
+  pub finite : (word : ℕ) → (kindOf (rounded f (Stochastic r) word x) ≡ Zero) ⊎ (kindOf (rounded f (Stochastic r) word x) ≡ Finite)
 
 -- the last r bits of the words are each random number once
 pub record EachOnce (r : ℕ) (words : List ℕ) : Type 0 where
@@ -61,7 +65,7 @@ pub record EachOnce (r : ℕ) (words : List ℕ) : Type 0 where
 
 -- Demand 3, with the words from 0 to 2^r - 1: for every format in range, every r, and every input whose magnitude is at most
 -- xmax, zeros among them. Infinities and NaNs are left out, since their patterns are worth more than any xmax
--- (`up-to-xmax-finite`); numbers above xmax are too, since some of their answers are infinite.
+-- (`up-to-xmax-finite`); numbers above xmax are too, since answers to them may be infinite.
 abbrev pub TotalOverAll : Type 0
 TotalOverAll = (f : Format) (r x : ℕ) → InRange f → magnitudeIn x ≤ xmax f → HitsTotal f r x (below (2 ^ r))
 

@@ -50,10 +50,13 @@ fn chopped(x: u64, r: u64, d: u64) -> u64 {
 }
 
 // Writes what the answers to x add up to, what they have to, where d is the place of the last kept
-// digit in the significand of x, and the answers.
+// digit in the significand of x, whether the two are the same, and the answers.
 fn print_sums(r: u64, x: u64, d: u64, ys: &[u64]) {
-    print_pattern(b" sum=", sum_of(ys, exponent_of(magnitude_of(x))));
-    print_pattern(b" chopped=", chopped(x, r, d));
+    let sum = sum_of(ys, exponent_of(magnitude_of(x)));
+    let due = chopped(x, r, d);
+    print_pattern(b" sum=", sum);
+    print_pattern(b" chopped=", due);
+    print_number(b" same=", (sum == due) as u64);
     print_patterns(b" y=", ys);
     print(b"\n");
 }
