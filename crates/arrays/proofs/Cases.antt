@@ -9,17 +9,17 @@ use Rattle.patterns.specs.Patterns.{sign, mag, withSign, kindOf, worth, val, pa
 use Rattle.grid.specs.Formats.{between, precisionFits, exponentFits, emin, etop, zetaExp, stepExp, step, T}
 use Rattle.grid.specs.Neighbours.{lo, hi}
 use Rattle.grid.proofs.Cases.{format}
-use Rattle.magnitudes.specs.Modes.{modeOf, K, u, takesHi}
+use Rattle.magnitudes.specs.Modes.{modeOf, usesWord, K, u, takesHi}
 use Rattle.magnitudes.specs.Destinations.{taken, written, goesTo}
 use Rattle.rounding.specs.Rounded.{answerTo, rounded}
 use Rattle.rounding.specs.Calls.{bitsFit, refusal}
-use Rattle.arrays.specs.Rounding.{usesWords, lengthsRefusal, arrayRefusal, report, reported, roundedAt, afterwards}
+use Rattle.arrays.specs.Rounding.{lengthsRefusal, arrayRefusal, report, reported, roundedAt, afterwards}
 
 -- document 01's job: one input twice, whose rest is 3/8 of the step from 3 to 3.25, so that K is 3, with the words 4 and 5: just
 -- below 2^r - K, and at it
 job : afterwards (format 4 15 true) 7 3 (4 ∷ 5 ∷ []) (0x4008_C000_0000_0000 ∷ 0x4008_C000_0000_0000 ∷ []) (0 ∷ 0 ∷ [])
     ≡ 0x4008_0000_0000_0000 ∷ 0x400A_0000_0000_0000 ∷ []
-unfolding afterwards roundedAt arrayRefusal lengthsRefusal usesWords refusal bitsFit precisionFits exponentFits between modeOf
+unfolding afterwards roundedAt arrayRefusal lengthsRefusal usesWord refusal bitsFit precisionFits exponentFits between modeOf
     rounded answerTo goesTo taken written takesHi K u lo hi step stepExp zetaExp emin etop T kindOf sign mag withSign val worth pat size
 job = refl
 
@@ -45,14 +45,14 @@ refusals :
     ∷ number 11 15 7 1 0 0 0
     ∷ []
     ≡ 1 ∷ 1 ∷ 2 ∷ 2 ∷ 3 ∷ 4 ∷ 4 ∷ 5 ∷ 6 ∷ 6 ∷ 0 ∷ 0 ∷ 0 ∷ 0 ∷ []
-unfolding arrayRefusal lengthsRefusal usesWords refusal bitsFit precisionFits exponentFits between
+unfolding arrayRefusal lengthsRefusal usesWord modeOf refusal bitsFit precisionFits exponentFits between
 refusals = refl
 
 -- a call that is refused reports the number and place 0, and its output holds what it held
 refused-call : reported (format 11 15 true) 7 2 (0 ∷ []) (0 ∷ 0 ∷ []) (1 ∷ 2 ∷ []) ≡ report 6
-unfolding reported arrayRefusal lengthsRefusal usesWords refusal bitsFit precisionFits exponentFits between
+unfolding reported arrayRefusal lengthsRefusal usesWord modeOf refusal bitsFit precisionFits exponentFits between
 refused-call = refl
 
 refused-output-kept : afterwards (format 11 15 true) 7 2 (0 ∷ []) (0 ∷ 0 ∷ []) (1 ∷ 2 ∷ []) ≡ 1 ∷ 2 ∷ []
-unfolding afterwards arrayRefusal lengthsRefusal usesWords refusal bitsFit precisionFits exponentFits between
+unfolding afterwards arrayRefusal lengthsRefusal usesWord modeOf refusal bitsFit precisionFits exponentFits between
 refused-output-kept = refl

@@ -10,30 +10,34 @@ use lib.Seq.{slice}
 use Rattle.laws.specs.Lists.{tab}
 use Rattle.laws.proofs.Lists.{tab-alike, length-part, getD-part, tab-part}
 use Rattle.grid.specs.declared.Format.{Format}
-use Rattle.magnitudes.specs.Modes.{modeOf}
+use Rattle.magnitudes.specs.Modes.{modeOf, usesWord}
 use Rattle.rounding.specs.Rounded.{rounded}
-use Rattle.arrays.specs.Rounding.{usesWords, refusalOf, roundedAt, afterwards}
-use Rattle.arrays.proofs.Refusals.{lengths-agree, words-suffice, lengths-accept, numbers-accepted, lengths-accepted, call-accepted}
+use Rattle.arrays.specs.Rounding.{lengthsRefusal, refusalOf, roundedAt, afterwards}
+use Rattle.arrays.proofs.Accepted.{lengths-agree, words-suffice, lengths-accept, numbers-accepted, lengths-accepted, call-accepted}
 use Rattle.arrays.proofs.Outcomes.{accepted-afterwards}
 
 module _ (f : Format) (mode r : ℕ) (words xs out : List ℕ) (accepted : refusalOf f mode r words xs out ≡ 0) (from to : ℕ) where
+  lengths : lengthsRefusal (modeOf mode r) (length words) (length xs) (length out) ≡ 0
+  lengths = lengths-accepted f mode r (length words) (length xs) (length out) accepted
+
   -- the part has as many outputs as inputs
   cut-lengths : length (slice from to out) ≡ length (slice from to xs)
   cut-lengths =
-      let long = lengths-agree mode (length words) (length xs) (length out) (lengths-accepted f mode r words xs out accepted) in
+      let long = lengths-agree (modeOf mode r) (length words) (length xs) (length out) lengths in
       length-part from to out ∙ ap (λ (n : ℕ). min to n - from) long ∙ sym (length-part from to xs)
 
   -- and words enough where they are used
-  cut-words : usesWords mode ≡ true → length (slice from to xs) ≤ length (slice from to words)
+  cut-words : usesWord (modeOf mode r) ≡ true → length (slice from to xs) ≤ length (slice from to words)
   cut-words used =
-      let enough = words-suffice mode (length words) (length xs) (length out) (lengths-accepted f mode r words xs out accepted) used in
+      let enough = words-suffice (modeOf mode r) (length words) (length xs) (length out) lengths used in
       omega (arith, length-part from to xs, length-part from to words)
 
   -- so it is accepted
   pub cut-accepted : refusalOf f mode r (slice from to words) (slice from to xs) (slice from to out) ≡ 0
   cut-accepted =
-      call-accepted f mode r (slice from to words) (slice from to xs) (slice from to out) (numbers-accepted f mode r words xs out accepted)
-      (lengths-accept mode (length (slice from to words)) (length (slice from to xs)) (length (slice from to out)) cut-lengths cut-words)
+      call-accepted f mode r (length (slice from to words)) (length (slice from to xs)) (length (slice from to out))
+      (numbers-accepted f mode r (length words) (length xs) (length out) accepted)
+      (lengths-accept (modeOf mode r) (length (slice from to words)) (length (slice from to xs)) (length (slice from to out)) cut-lengths cut-words)
 
   -- each of its places has the answer of the place that it was cut from
   cut-place : (i : ℕ) → i < min to (length xs) - from

@@ -1,5 +1,6 @@
 -- The laws about array calls, a subject a file: first those by which the code is proved, then what a place depends on, parts of
 -- arrays, the total of stochastic rounding, and closed cases.
+pub mod Accepted
 pub mod Refusals
 pub mod UnreadWords
 pub mod Turns

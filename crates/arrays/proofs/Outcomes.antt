@@ -10,16 +10,14 @@ use borrow.Author.Tests.{eq-eqb}
 use Rattle.laws.specs.Lists.{tab}
 use Rattle.laws.proofs.Lists.{tab-alike}
 use Rattle.grid.specs.declared.Format.{Format}
-use Rattle.grid.proofs.Ranges.{in-range-bounds}
-use Rattle.magnitudes.specs.Modes.{modeOf}
+use Rattle.magnitudes.specs.Modes.{modeOf, usesWord}
 use Rattle.rounding.specs.Rounded.{rounded}
+use Rattle.rounding.specs.Calls.{refusal}
 use Rattle.magnitudes.specs.BySettings.{settings}
-use Rattle.rounding.specs.BySettings.{roundedBy}
-use Rattle.rounding.proofs.Refusals.{accepted-in-range, accepted-mode-known, accepted-mode-fits}
-use Rattle.rounding.proofs.Agreement.{rounded-by-settings}
-use Rattle.arrays.specs.Rounding.{usesWords, arrayRefusal, refusalOf, roundedAt, afterwards}
+use Rattle.arrays.specs.Rounding.{arrayRefusal, refusalOf, roundedAt, afterwards}
 use Rattle.arrays.specs.Loops.{roundedByAt, roundedAllBy}
-use Rattle.arrays.proofs.Refusals.{numbers-accepted}
+use Rattle.rounding.proofs.WholeCalls.{accepted-pattern}
+use Rattle.arrays.proofs.Accepted.{numbers-accepted}
 use Rattle.arrays.proofs.UnreadWords.{unused-unread}
 
 module _ (f : Format) (mode r : ℕ) (words xs out : List ℕ) where
@@ -44,28 +42,23 @@ module _ (f : Format) (mode r : ℕ) (words xs out : List ℕ) where
         (eq-eqb (refusalOf f mode r words xs held) 0 (ap (arrayRefusal f mode r (length words) (length xs)) long ∙ none))
         ∙ sym accepted-afterwards
 
-    -- what rounding by the settings of an accepted call answers
-    by-settings : (word x : ℕ) → roundedBy (settings f (modeOf mode r)) word x ≡ rounded f (modeOf mode r) word x
-    by-settings word x =
-        let numbers = numbers-accepted f mode r words xs out none in
-        rounded-by-settings f (in-range-bounds f (accepted-in-range f mode r 0 (sym numbers) refl)) (modeOf mode r)
-        (accepted-mode-fits f mode r numbers) word x
+    numbers : refusal f mode r ≡ 0
+    numbers = numbers-accepted f mode r (length words) (length xs) (length out) none
 
-    -- rounding every place by them, with its own word or with one that is as good, leaves the same
+    -- rounding every place by the settings, with its own word or with one that is as good, leaves the same
     all-rounded-with : (others : List ℕ)
         → ((i : ℕ) → rounded f (modeOf mode r) (getD others i 0) (getD xs i 0) ≡ rounded f (modeOf mode r) (getD words i 0) (getD xs i 0))
         → roundedAllBy (settings f (modeOf mode r)) others xs ≡ afterwards f mode r words xs out
     unfolding roundedAllBy roundedAt
     all-rounded-with others alike =
         tab-alike (length xs) (roundedByAt (settings f (modeOf mode r)) others xs) (roundedAt f (modeOf mode r) words xs)
-        (λ i h. by-settings (getD others i 0) (getD xs i 0) ∙ alike i)
+        (λ i h. accepted-pattern f mode r numbers (getD others i 0) (getD xs i 0) ∙ alike i)
         ∙ sym accepted-afterwards
 
     pub rounded-with-words : roundedAllBy (settings f (modeOf mode r)) words xs ≡ afterwards f mode r words xs out
     rounded-with-words = all-rounded-with words (λ i. refl)
 
     -- in a mode that uses no words the patterns themselves are as good as any
-    pub rounded-without-words : usesWords mode ≡ false → roundedAllBy (settings f (modeOf mode r)) xs xs ≡ afterwards f mode r words xs out
+    pub rounded-without-words : usesWord (modeOf mode r) ≡ false → roundedAllBy (settings f (modeOf mode r)) xs xs ≡ afterwards f mode r words xs out
     rounded-without-words unused =
-        let known = accepted-mode-known f mode r (numbers-accepted f mode r words xs out none) in
-        all-rounded-with xs (λ i. unused-unread f mode r (getD xs i 0) (getD words i 0) (getD xs i 0) known unused)
+        all-rounded-with xs (λ i. unused-unread f (modeOf mode r) (getD xs i 0) (getD words i 0) (getD xs i 0) unused)

@@ -7,22 +7,21 @@ use native.Mathlib.Nat.{lt-of-lt-of-le}
 use native.Mathlib.Omega.{arith}
 use lib.Dec.{ltb, eqb}
 use lib.ListN.{length, getD, length-append, List·getD-append}
-use borrow.Author.Tests.{eqb-true, le-ltb, eq-eqb}
+use borrow.Author.Tests.{le-ltb, eq-eqb}
 use Rattle.laws.specs.Lists.{tab}
 use Rattle.laws.proofs.Lists.{getD-tab, getD-tab-alike, tab-alike}
 use Rattle.grid.specs.declared.Format.{Format}
 use Rattle.magnitudes.specs.declared.Mode.{Mode}
-use Rattle.magnitudes.specs.Modes.{modeOf}
+use Rattle.magnitudes.specs.Modes.{modeOf, usesWord}
 use Rattle.magnitudes.proofs.ModeTables.{mode-unread}
 use Rattle.rounding.specs.Rounded.{rounded}
 use Rattle.rounding.specs.Calls.{refusal, answered, refused, roundOne}
-use Rattle.rounding.proofs.Refusals.{accepted-mode-known}
-use Rattle.rounding.proofs.WholeCalls.{refusal-unread}
-use Rattle.arrays.specs.Rounding.{usesWords, lengthsRefusal, arrayRefusal, refusalOf, report, reported, roundedAt, afterwards}
+use Rattle.rounding.proofs.Refusals.{refusal-unread}
+use Rattle.arrays.specs.Rounding.{lengthsRefusal, arrayRefusal, refusalOf, report, reported, roundedAt, afterwards}
 use Rattle.arrays.specs.Facts.{SameBut}
 use Rattle.arrays.proofs.UnreadWords.{unused-unread}
-use Rattle.arrays.proofs.Refusals.{numbers-accepted}
-use Rattle.arrays.proofs.Outcomes.{accepted-afterwards, refused-afterwards}
+use Rattle.arrays.proofs.Accepted.{numbers-accepted, lengths-alike, refused-alike}
+use Rattle.arrays.proofs.Outcomes.{accepted-afterwards}
 
 -- ---- two calls that are decided alike
 
@@ -72,16 +71,12 @@ module _ (f : Format) (mode r : ℕ) (words others xs ys out : List ℕ) (k : �
 -- extra words: the report and the output are the same without them
 module _ (f : Format) (mode r : ℕ) (words more xs out : List ℕ) (enough : length xs ≤ length words) where
   extra-decided : refusalOf f mode r (words ++ more) xs out ≡ refusalOf f mode r words xs out
-  unfolding arrayRefusal lengthsRefusal
   extra-decided =
-      ap number (le-ltb (length (words ++ more)) (length xs) (omega (arith, length-append words more)))
-      ∙ sym (ap number (le-ltb (length words) (length xs) enough))
-    where
-      number : Bool → ℕ
-      number few =
-          cond (not (eqb (refusal f mode r) 0)) (refusal f mode r)
-          (cond (not (eqb (length out) (length xs))) 5
-          (cond (usesWords mode && few) 6 0))
+      let m = modeOf mode r in
+      let long : length xs ≤ length (words ++ more) = omega (arith, length-append words more) in
+      refused-alike f mode r (length (words ++ more)) (length words) (length xs) (length out)
+      (lengths-alike m (length (words ++ more)) (length words) (length xs) (length out)
+      (ap (λ (few : Bool). usesWord m && few) (le-ltb (length (words ++ more)) (length xs) long ∙ sym (le-ltb (length words) (length xs) enough))))
 
   pub extra-words-reported : reported f mode r (words ++ more) xs out ≡ reported f mode r words xs out
   unfolding reported
@@ -94,16 +89,13 @@ module _ (f : Format) (mode r : ℕ) (words more xs out : List ℕ) (enough : le
       (λ i h. ap (λ (w : ℕ). rounded f (modeOf mode r) w (getD xs i 0)) (List·getD-append words more 0 i (lt-of-lt-of-le h enough)))
 
 -- words in a mode that uses none: with any others the report and the output are the same
-module _ (f : Format) (mode r : ℕ) (words others xs out : List ℕ) (unused : usesWords mode ≡ false) where
+module _ (f : Format) (mode r : ℕ) (words others xs out : List ℕ) (unused : usesWord (modeOf mode r) ≡ false) where
   unused-decided : refusalOf f mode r words xs out ≡ refusalOf f mode r others xs out
-  unfolding arrayRefusal lengthsRefusal
-  unused-decided = ap (number (length words)) unused ∙ sym (ap (number (length others)) unused)
-    where
-      number : ℕ → Bool → ℕ
-      number count uses =
-          cond (not (eqb (refusal f mode r) 0)) (refusal f mode r)
-          (cond (not (eqb (length out) (length xs))) 5
-          (cond (uses && ltb count (length xs)) 6 0))
+  unused-decided =
+      let m = modeOf mode r in
+      refused-alike f mode r (length words) (length others) (length xs) (length out)
+      (lengths-alike m (length words) (length others) (length xs) (length out)
+      (ap (λ (uses : Bool). uses && ltb (length words) (length xs)) unused ∙ sym (ap (λ (uses : Bool). uses && ltb (length others) (length xs)) unused)))
 
   pub words-unread-reported : reported f mode r words xs out ≡ reported f mode r others xs out
   unfolding reported
@@ -111,31 +103,25 @@ module _ (f : Format) (mode r : ℕ) (words others xs out : List ℕ) (unused : 
 
   pub words-unread : afterwards f mode r words xs out ≡ afterwards f mode r others xs out
   unfolding roundedAt
-  words-unread = go (eqb (refusalOf f mode r words xs out) 0) refl
-    where
-      go : (b : Bool) → eqb (refusalOf f mode r words xs out) 0 ≡ b → afterwards f mode r words xs out ≡ afterwards f mode r others xs out
-      go true accepted =
-          let known = accepted-mode-known f mode r (numbers-accepted f mode r words xs out (eqb-true (refusalOf f mode r words xs out) 0 accepted)) in
-          alike-throughout f mode r words others xs out unused-decided
-          (λ i h. unused-unread f mode r (getD words i 0) (getD others i 0) (getD xs i 0) known unused)
-      go false rejected =
-          refused-afterwards f mode r words xs out rejected
-          ∙ sym (refused-afterwards f mode r others xs out (ap (λ (n : ℕ). eqb n 0) (sym unused-decided) ∙ rejected))
+  words-unread =
+      alike-throughout f mode r words others xs out unused-decided
+      (λ i h. unused-unread f (modeOf mode r) (getD words i 0) (getD others i 0) (getD xs i 0) unused)
 
 -- r in a mode other than 7
 module _ (f : Format) (mode r s : ℕ) (words xs out : List ℕ) (other : mode ≡ 7 → ⊥) where
   r-decided : refusalOf f mode r words xs out ≡ refusalOf f mode s words xs out
   unfolding arrayRefusal
   r-decided =
-      ap (λ (n : ℕ). cond (not (eqb n 0)) n (lengthsRefusal mode (length words) (length xs) (length out))) (refusal-unread f mode r s other)
+      ap₂ (λ (n : ℕ) (m : Mode). cond (not (eqb n 0)) n (lengthsRefusal m (length words) (length xs) (length out)))
+      (refusal-unread f mode r s other) (mode-unread mode r s other)
 
-  pub r-unread-reported : reported f mode r words xs out ≡ reported f mode s words xs out
+  pub array-r-reported : reported f mode r words xs out ≡ reported f mode s words xs out
   unfolding reported
-  r-unread-reported = ap report r-decided
+  array-r-reported = ap report r-decided
 
-  pub r-unread : afterwards f mode r words xs out ≡ afterwards f mode s words xs out
+  pub array-r-unread : afterwards f mode r words xs out ≡ afterwards f mode s words xs out
   unfolding afterwards
-  r-unread =
+  array-r-unread =
       ap₂ (λ (n : ℕ) (m : Mode). cond (eqb n 0) (tab (length xs) (roundedAt f m words xs)) out) r-decided (mode-unread mode r s other)
 
 -- ---- a place and a single call
@@ -146,7 +132,7 @@ pub place-is-single-call : (f : Format) (mode r : ℕ) (words xs out : List ℕ)
 unfolding roundOne roundedAt
 place-is-single-call f mode r words xs out accepted i within =
     let y = rounded f (modeOf mode r) (getD words i 0) (getD xs i 0) in
-    ap (λ (b : Bool). cond b (answered y) (refused (refusal f mode r))) (eq-eqb (refusal f mode r) 0 (numbers-accepted f mode r words xs out accepted))
+    ap (λ (b : Bool). cond b (answered y) (refused (refusal f mode r))) (eq-eqb (refusal f mode r) 0 (numbers-accepted f mode r (length words) (length xs) (length out) accepted))
     ∙ ap answered
     (sym
     (ap (λ (l : List ℕ). getD l i 0) (accepted-afterwards f mode r words xs out accepted)

@@ -1,6 +1,6 @@
 -- Demand 3 for an array call: one input at every place, and words that have each random number once. Assumes nothing.
 use mathlib.Core.List.{List}
-use mathlib.Core.Path.{_≡_, refl, sym, ap, _∙_}
+use mathlib.Core.Path.{_≡_, ap, _∙_}
 use Prim.Native.Nat.{ℕ, _≤_}
 use lib.ListN.{length, getD, replicate, length-replicate, getD-replicate}
 use Rattle.laws.specs.Lists.{tab}
@@ -8,15 +8,14 @@ use Rattle.laws.proofs.Lists.{tab-alike, tab-getD}
 use Rattle.patterns.specs.Patterns.{sign}
 use Rattle.grid.specs.declared.Format.{Format}
 use Rattle.grid.specs.Formats.{xmax}
-use Rattle.grid.proofs.Ranges.{in-range-bounds}
 use Rattle.magnitudes.specs.declared.Mode.the-variants.{Stochastic}
 use Rattle.magnitudes.specs.Modes.{modeOf}
 use Rattle.rounding.specs.Rounded.{rounded}
-use Rattle.rounding.proofs.Refusals.{accepted-in-range}
+use Rattle.rounding.proofs.Refusals.{accepted-inside}
 use Rattle.meaning.specs.Totals.{magnitudeIn, signed, total, answers, chopped, EachOnce}
 use Rattle.meaning.proofs.Totals.{total-in-any-order}
 use Rattle.arrays.specs.Rounding.{refusalOf, roundedAt, afterwards}
-use Rattle.arrays.proofs.Refusals.{numbers-accepted}
+use Rattle.arrays.proofs.Accepted.{numbers-accepted}
 use Rattle.arrays.proofs.Outcomes.{accepted-afterwards}
 
 module _ (f : Format) (r x : ℕ) (words out : List ℕ) (accepted : refusalOf f 7 r words (replicate (length words) x) out ≡ 0) where
@@ -36,5 +35,5 @@ module _ (f : Format) (r x : ℕ) (words out : List ℕ) (accepted : refusalOf f
   pub array-total : magnitudeIn x ≤ xmax f → EachOnce r words
       → total (afterwards f 7 r words (replicate (length words) x) out) ≡ signed (sign x) (chopped f r (magnitudeIn x))
   array-total most each =
-      let inside = in-range-bounds f (accepted-in-range f 7 r 0 (sym (numbers-accepted f 7 r words (replicate (length words) x) out accepted)) refl) in
+      let inside = accepted-inside f 7 r (numbers-accepted f 7 r (length words) (length (replicate (length words) x)) (length out) accepted) in
       ap total repeated-input ∙ total-in-any-order f r x words inside most each .exact

@@ -9,12 +9,14 @@ use Rattle.grid.specs.declared.Format.{Format}
 use Rattle.magnitudes.specs.declared.Settings.{Settings}
 use Rattle.rounding.specs.declared.Prepared.{Prepared}
 use Rattle.rounding.specs.declared.Prepared.the-variants.{Ready, Refused}
-use Rattle.magnitudes.specs.Modes.{modeOf}
+use Rattle.magnitudes.specs.declared.Mode.{Mode}
+use Rattle.magnitudes.specs.Modes.{modeOf, usesWord}
 use Rattle.magnitudes.specs.BySettings.{settings}
 use Rattle.rounding.proofs.Preparations.{ready-none, ready-settings, refused-is, refused-some}
-use Rattle.arrays.specs.Rounding.{usesWords, refusalOf, report, reported, afterwards}
+use Rattle.arrays.specs.declared.Report.{Report}
+use Rattle.arrays.specs.Rounding.{lengthsRefusal, refusalOf, report, reported, afterwards}
 use Rattle.arrays.specs.Loops.{decided, roundedAllBy}
-use Rattle.arrays.proofs.Refusals.{lengths-agree, words-suffice, lengths-accepted}
+use Rattle.arrays.proofs.Accepted.{lengths-agree, words-suffice, lengths-accepted}
 use Rattle.arrays.proofs.Outcomes.{refused-afterwards, rounded-with-words, rounded-without-words}
 
 module _ (f : Format) (mode r : ℕ) (words xs out : List ℕ) (d : Prepared) (e : d ≡ decided f mode r (length words) (length xs) (length out)) where
@@ -27,31 +29,41 @@ module _ (f : Format) (mode r : ℕ) (words xs out : List ℕ) (d : Prepared) (e
     unfolding decided
     made = ready-settings (refusalOf f mode r words xs out) (settings f (modeOf mode r)) s (sym e ∙ ready)
 
-    -- the loop has as many places to write as to read, and a word for each where words are used
+    lengths : lengthsRefusal (modeOf mode r) (length words) (length xs) (length out) ≡ 0
+    lengths = lengths-accepted f mode r (length words) (length xs) (length out) accepted
+
+    -- the settings hold the call's mode
+    named : s .mode ≡ modeOf mode r
+    unfolding settings
+    named = ap (λ (t : Settings). t .mode) made
+
+    -- the loop has as many places to write as to read
     pub ready-lengths : length out ≡ length xs
-    ready-lengths = lengths-agree mode (length words) (length xs) (length out) (lengths-accepted f mode r words xs out accepted)
+    ready-lengths = lengths-agree (modeOf mode r) (length words) (length xs) (length out) lengths
 
-    pub ready-words : (b : Bool) → b ≡ usesWords mode → b ≡ true → length xs ≤ length words
-    ready-words b tested used =
-        words-suffice mode (length words) (length xs) (length out) (lengths-accepted f mode r words xs out accepted) (sym tested ∙ used)
+    -- and a word for each where words are used
+    pub ready-words : (known : Mode) → known ≡ s .mode → (b : Bool) → b ≡ usesWord known → b ≡ true → length xs ≤ length words
+    ready-words known same b tested used =
+        words-suffice (modeOf mode r) (length words) (length xs) (length out) lengths (sym (ap usesWord (same ∙ named)) ∙ sym tested ∙ used)
 
-    pub ready-report : report 0 ≡ reported f mode r words xs out
+    pub ready-report : (y : Report) → y ≡ report 0 → y ≡ reported f mode r words xs out
     unfolding reported
-    ready-report = ap report (sym accepted)
+    ready-report y is = is ∙ ap report (sym accepted)
 
     pub ready-with-words : (after : List ℕ) → after ≡ roundedAllBy s words xs → after ≡ afterwards f mode r words xs out
     ready-with-words after is =
         is ∙ ap (λ (t : Settings). roundedAllBy t words xs) made ∙ rounded-with-words f mode r words xs out accepted
 
-    pub ready-without-words : (b : Bool) → b ≡ usesWords mode → b ≡ false → (after : List ℕ) → after ≡ roundedAllBy s xs xs
+    pub ready-without-words : (known : Mode) → known ≡ s .mode → (b : Bool) → b ≡ usesWord known → b ≡ false → (after : List ℕ) → after ≡ roundedAllBy s xs xs
         → after ≡ afterwards f mode r words xs out
-    ready-without-words b tested unused after is =
-        is ∙ ap (λ (t : Settings). roundedAllBy t xs xs) made ∙ rounded-without-words f mode r words xs out accepted (sym tested ∙ unused)
+    ready-without-words known same b tested unused after is =
+        is ∙ ap (λ (t : Settings). roundedAllBy t xs xs) made
+        ∙ rounded-without-words f mode r words xs out accepted (sym (ap usesWord (same ∙ named)) ∙ sym tested ∙ unused)
 
   module _ (n : ℕ) (refused : d ≡ Refused n) where
-    pub refused-report : report n ≡ reported f mode r words xs out
+    pub refused-report : (y : Report) → y ≡ report n → y ≡ reported f mode r words xs out
     unfolding decided reported
-    refused-report = ap report (refused-is (refusalOf f mode r words xs out) (settings f (modeOf mode r)) n (sym e ∙ refused))
+    refused-report y is = is ∙ ap report (refused-is (refusalOf f mode r words xs out) (settings f (modeOf mode r)) n (sym e ∙ refused))
 
     pub refused-output : out ≡ afterwards f mode r words xs out
     unfolding decided

@@ -1,6 +1,6 @@
 -- A whole array rounded: what is refused, what is reported, and what the output holds afterwards (document 01, "Arrays" and
 -- "Refusal numbers"). Assumes nothing.
-use mathlib.Core.Bool.{Bool, cond, not, _&&_, _||_}
+use mathlib.Core.Bool.{cond, not, _&&_}
 use mathlib.Core.List.{List}
 use Prim.Native.Nat.{ℕ}
 use lib.Dec.{ltb, eqb}
@@ -8,26 +8,22 @@ use lib.ListN.{length, getD}
 use Rattle.laws.specs.Lists.{tab}
 use Rattle.grid.specs.declared.Format.{Format}
 use Rattle.magnitudes.specs.declared.Mode.{Mode}
-use Rattle.magnitudes.specs.Modes.{modeOf}
+use Rattle.magnitudes.specs.Modes.{modeOf, usesWord}
 use Rattle.rounding.specs.Rounded.{rounded}
 use Rattle.rounding.specs.Calls.{refusal}
 use Rattle.arrays.specs.declared.Report.{Report}
 
--- modes 7 and 8 use a word at each place, and no other mode looks at one
-unfoldable pub usesWords : ℕ → Bool
-usesWords mode = eqb mode 7 || eqb mode 8
-
 -- What the lengths refuse, by how many words, inputs and outputs there are: 5 where the output is not as long as the input, 6
--- where a mode that uses words has fewer of them than inputs; and 0 where nothing.
-unfoldable pub lengthsRefusal : ℕ → ℕ → ℕ → ℕ → ℕ
+-- where a mode that uses words, 7 or 8, has fewer of them than inputs; and 0 where nothing.
+unfoldable pub lengthsRefusal : Mode → ℕ → ℕ → ℕ → ℕ
 lengthsRefusal mode words inputs outputs =
     cond (not (eqb outputs inputs)) 5
-    (cond (usesWords mode && ltb words inputs) 6 0)
+    (cond (usesWord mode && ltb words inputs) 6 0)
 
 -- the first refusal that applies: what a single call refuses comes first, then the lengths
 unfoldable pub arrayRefusal : Format → ℕ → ℕ → ℕ → ℕ → ℕ → ℕ
 arrayRefusal f mode r words inputs outputs =
-    cond (not (eqb (refusal f mode r) 0)) (refusal f mode r) (lengthsRefusal mode words inputs outputs)
+    cond (not (eqb (refusal f mode r) 0)) (refusal f mode r) (lengthsRefusal (modeOf mode r) words inputs outputs)
 
 -- the same for a call, by its arrays
 abbrev pub refusalOf : Format → ℕ → ℕ → List ℕ → List ℕ → List ℕ → ℕ

@@ -1,12 +1,19 @@
 // The calls: decide, then write.
 ghost use mathlib.Core.Path.{_≡_};
-ghost use Rattle.arrays.specs.Rounding.{reported, afterwards};
+ghost use Rattle.arrays.specs.Rounding.{report, reported, afterwards};
 use super::Report;
 use super::decisions::decide;
-use super::decisions::uses_words;
+use super::decisions::uses_word;
 use super::loops::round_all;
 use grid::Format;
 use rounding::Prepared;
+
+// The report of a call that is about no place: 0, or the number of its refusal.
+fn report_of(number: u64) -> Report
+    ensures { λ y. ⌜ y ≡ report number ⌝ }
+{
+    Report { number, place: 0 }
+}
 
 // Every pattern of xs rounded into out, place i with word i in modes 7 and 8; or a refusal, and out
 // as it was. In the other modes no word is looked at: the loop is lent xs in their place.
@@ -18,24 +25,19 @@ pub fn round_array(
     xs: &[u64],
     out: &mut [u64],
 ) -> Report
-    ensures report { λ y. ⌜ y ≡ reported format mode r (now (words .entry)) (now (xs .entry)) (now (out .entry)) ⌝ }
+    ensures answer { λ y. ⌜ y ≡ reported format mode r (now (words .entry)) (now (xs .entry)) (now (out .entry)) ⌝ }
     ensures written { λ y. ⌜ now (out .exit) ≡ afterwards format mode r (now (words .entry)) (now (xs .entry)) (now (out .entry)) ⌝ }
 {
     match decide(format, mode, r, words.len(), xs.len(), out.len()) {
         Prepared::Ready(s) => {
-            if uses_words(mode) {
+            let known = s.mode;
+            if uses_word(known) {
                 round_all(s, words, xs, out);
-                return Report {
-                    number: 0,
-                    place: 0,
-                };
+                return report_of(0);
             }
             round_all(s, xs, xs, out);
-            Report {
-                number: 0,
-                place: 0,
-            }
+            report_of(0)
         }
-        Prepared::Refused(number) => Report { number, place: 0 },
+        Prepared::Refused(number) => report_of(number),
     }
 }

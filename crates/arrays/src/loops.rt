@@ -1,4 +1,4 @@
-// The loops that write.
+// The loop that writes.
 ghost use mathlib.Core.Path.{_≡_};
 ghost use Prim.Native.Nat.{_≤_, _<_};
 ghost use lib.ListN.{length};

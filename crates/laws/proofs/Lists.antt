@@ -1,6 +1,6 @@
 -- The list that a rule makes, `tab n g`: how long it is, what stands at a place, and how two rules and two lengths compare.
 -- Assumes nothing.
-use mathlib.Core.List.{List, [], _∷_, _++_, map}
+use mathlib.Core.List.{List, [], _∷_, map}
 use mathlib.Core.Path.{_≡_, refl, sym, ap, ap₂, _∙_, subst}
 use Prim.Native.Nat.{ℕ, zero, suc, _+_, _-_, _<_, min, zero-le, suc-le-suc}
 use native.Mathlib.Nat.{le-of-suc-le-suc, not-suc-le-zero}
@@ -31,11 +31,6 @@ tab-alike {A} (suc n) g h same =
 pub map-tab : {A B : Type 0} (n : ℕ) (g : ℕ → A) (h : A → B) → map h (tab n g) ≡ tab n (λ (i : ℕ). h (g i))
 map-tab zero g h = refl
 map-tab {A} {B} (suc n) g h = ap {B = List B} (λ xs. h (g 0) ∷ xs) (map-tab n (λ (i : ℕ). g (suc i)) h)
-
--- one entry more stands at the end
-pub tab-last : {A : Type 0} (n : ℕ) (g : ℕ → A) → tab (suc n) g ≡ tab n g ++ (g n ∷ [])
-tab-last zero g = refl
-tab-last {A} (suc n) g = ap {B = List A} (λ xs. g 0 ∷ xs) (tab-last n (λ (i : ℕ). g (suc i)))
 
 -- two rules that agree at i make lists that agree there
 pub getD-tab-alike : {A : Type 0} (n : ℕ) (g h : ℕ → A) (i : ℕ) (d : A) → g i ≡ h i → getD (tab n g) i d ≡ getD (tab n h) i d

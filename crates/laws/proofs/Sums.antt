@@ -33,7 +33,7 @@ sum-adds zero g h = refl
 sum-adds (suc n) g h = let later = sum-adds n (λ (i : ℕ). g (suc i)) (λ (i : ℕ). h (suc i)) in omega arith
 
 -- the last entry may be added at the end
-pub sum-last : (n : ℕ) (g : ℕ → ℕ) → sum (tab (suc n) g) ≡ sum (tab n g) + g n
+sum-last : (n : ℕ) (g : ℕ → ℕ) → sum (tab (suc n) g) ≡ sum (tab n g) + g n
 unfolding sum
 sum-last zero g = omega arith
 sum-last (suc n) g = let later = sum-last n (λ (i : ℕ). g (suc i)) in omega arith
@@ -88,7 +88,7 @@ counted-once-more true k x = add-mul 1 k x ∙ ap (λ (y : ℕ). y + k * x) (one
 counted-once-more false k x = add-mul 0 k x ∙ ap (λ (y : ℕ). y + k * x) (zero-mul x)
 
 -- a list of numbers below n adds up to each of them as often as it stands there
-pub sum-counted :
+sum-counted :
     (n : ℕ) (g : ℕ → ℕ) (l : List ℕ) → every (λ (m : ℕ). ltb m n) l ≡ true
     → sum (map g l) ≡ sum (tab n (λ (i : ℕ). times i l * g i))
 unfolding sum times

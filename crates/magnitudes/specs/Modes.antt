@@ -59,6 +59,18 @@ takesHi ToOdd negative m rest G word = even m
 takesHi (Stochastic r) negative m rest G word = leb (2 ^ r) (K r rest G + u r word)
 takesHi EvenChance negative m rest G word = odd word
 
+-- whether the mode looks at the word
+unfoldable pub usesWord : Mode → Bool
+usesWord TiesToEven = false
+usesWord TiesToZero = false
+usesWord TiesAway = false
+usesWord TowardZero = false
+usesWord TowardPlus = false
+usesWord TowardMinus = false
+usesWord ToOdd = false
+usesWord (Stochastic r) = true
+usesWord EvenChance = true
+
 -- from T on: whether infinity is the answer; where not, xmax is
 unfoldable pub overflows : Mode → Bool → Bool
 overflows TiesToEven negative = true

@@ -172,7 +172,7 @@ module _ (f : Format) (inside : InRange f) (r x : ℕ) (most : magnitudeIn x ≤
       (lt-of-le-of-lt within (xmax-below-top f inside))
 
   -- the magnitude of the answer is the candidate that the word's random number takes
-  pub answer-magnitude : magnitudeIn (rounded f (Stochastic r) word x) ≡ takenWith f r (magnitudeIn x) (u r word)
+  answer-magnitude : magnitudeIn (rounded f (Stochastic r) word x) ≡ takenWith f r (magnitudeIn x) (u r word)
   answer-magnitude = go (zero-or-finite f inside x most)
     where
       go : (mag x ≡ 0) ⊎ (kindOf x ≡ Finite) → magnitudeIn (rounded f (Stochastic r) word x) ≡ taken

@@ -2,6 +2,7 @@
 -- code is proved. Those about magnitudes are in the crate `magnitudes`, and those about what is meant in the crate `meaning`.
 pub mod Agreement
 pub mod BySettings
+pub mod Settings
 pub mod Preparations
 pub mod Refusals
 pub mod WholeCalls

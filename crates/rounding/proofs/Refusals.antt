@@ -4,10 +4,10 @@ use mathlib.Core.Path.{_≡_, refl, sym, ap, _∙_, subst}
 use Prim.Native.Nat.{ℕ, suc, _≤_, _<_}
 use native.Mathlib.Omega.{arith}
 use lib.Dec.{ltb, eqb}
-use borrow.Author.Tests.{lt-ltb, le-ltb, ltb-false, eq-eqb, ne-eqb}
+use borrow.Author.Tests.{lt-ltb, le-ltb, eq-eqb, ne-eqb}
 use Rattle.grid.specs.declared.Format.{Format}
-use Rattle.grid.specs.Formats.{between, precisionFits, exponentFits, inRange}
-use Rattle.grid.proofs.Ranges.{between-least, between-most}
+use Rattle.grid.specs.Formats.{between, precisionFits, exponentFits, inRange, InRange}
+use Rattle.grid.proofs.Ranges.{between-least, between-most, in-range-bounds}
 use Rattle.magnitudes.specs.declared.Mode.{Mode}
 use Rattle.magnitudes.specs.declared.Mode.the-variants.{TiesToEven, TiesToZero, TiesAway, TowardZero, TowardPlus, TowardMinus, ToOdd, Stochastic, EvenChance}
 use Rattle.magnitudes.specs.Modes.{modeOf, ModeFits}
@@ -61,19 +61,8 @@ accepted-in-range f mode r n e none = go (precisionFits (f .p)) (exponentFits (f
     go true false h = absurd (omega arith)
     go false x h = absurd (omega arith)
 
--- has a mode that there is
-pub accepted-mode-known : (f : Format) (mode r : ℕ) → refusal f mode r ≡ 0 → mode ≤ 8
-unfolding refusal
-accepted-mode-known f mode r none = go (precisionFits (f .p)) (exponentFits (f .emax)) (ltb 8 mode) refl none
-  where
-    rest : ℕ
-    rest = cond (eqb mode 7 && not (bitsFit r)) 4 0
-
-    go : (p x t : Bool) → ltb 8 mode ≡ t → cond (not p) 1 (cond (not x) 2 (cond t 3 rest)) ≡ 0 → mode ≤ 8
-    go true true true past h = absurd (omega arith)
-    go true true false known h = ltb-false 8 mode known
-    go true false t e h = absurd (omega arith)
-    go false x t e h = absurd (omega arith)
+pub accepted-inside : (f : Format) (mode r : ℕ) → refusal f mode r ≡ 0 → InRange f
+accepted-inside f mode r none = in-range-bounds f (accepted-in-range f mode r 0 (sym none) refl)
 
 -- in mode 7 its r fits
 accepted-bits : (f : Format) (r : ℕ) → refusal f 7 r ≡ 0 → (1 ≤ r) × (r ≤ 53)
@@ -115,3 +104,13 @@ accepted-mode-fits f mode r none b is =
     let seven = stochastic-is-seven mode r b (ap holds is) in
     let bits = accepted-bits f r (ap (λ (k : ℕ). refusal f k r) (sym (seven .0)) ∙ none) in
     subst (λ (k : ℕ). (1 ≤ k) × (k ≤ 53)) (seven .1) bits
+
+-- ---- r
+
+-- a mode other than 7 is refused or not whatever r is
+pub refusal-unread : (f : Format) (mode r s : ℕ) → (mode ≡ 7 → ⊥) → refusal f mode r ≡ refusal f mode s
+unfolding refusal
+refusal-unread f mode r s other = ap (number r) (ne-eqb mode 7 other) ∙ sym (ap (number s) (ne-eqb mode 7 other))
+  where
+    number : ℕ → Bool → ℕ
+    number b seven = cond (not (precisionFits (f .p))) 1 (cond (not (exponentFits (f .emax))) 2 (cond (ltb 8 mode) 3 (cond (seven && not (bitsFit b)) 4 0)))

@@ -1,12 +1,11 @@
--- The calls: what is prepared, and the answer to one pattern, in the forms in which the code comes to them. Assumes nothing.
-use mathlib.Core.Bool.{Bool, cond, not, _&&_}
-use mathlib.Core.Path.{_≡_, refl, sym, ap, ap₂, _∙_}
+-- The calls: what is prepared, and the answer to one pattern, in the forms in which the code comes to them; and that only mode 7
+-- looks at r. Assumes nothing.
+use mathlib.Core.Bool.{Bool, cond}
+use mathlib.Core.Path.{_≡_, sym, ap, ap₂, _∙_}
 use Prim.Native.Nat.{ℕ}
-use lib.Dec.{ltb, eqb}
+use lib.Dec.{eqb}
 use borrow.Author.Tests.{eq-eqb, ne-eqb}
 use Rattle.grid.specs.declared.Format.{Format}
-use Rattle.grid.specs.Formats.{precisionFits, exponentFits}
-use Rattle.grid.proofs.Ranges.{in-range-bounds}
 use Rattle.magnitudes.specs.declared.Mode.{Mode}
 use Rattle.magnitudes.specs.declared.Settings.{Settings}
 use Rattle.magnitudes.specs.Modes.{modeOf}
@@ -16,8 +15,8 @@ use Rattle.rounding.specs.declared.Prepared.{Prepared}
 use Rattle.rounding.specs.declared.Prepared.the-variants.{Ready, Refused}
 use Rattle.rounding.specs.Rounded.{rounded}
 use Rattle.rounding.specs.BySettings.{roundedBy, unlessRefused, prepared, numberOf}
-use Rattle.rounding.specs.Calls.{bitsFit, refusal, answered, refused, roundOne}
-use Rattle.rounding.proofs.Refusals.{accepted-in-range, accepted-mode-fits}
+use Rattle.rounding.specs.Calls.{refusal, answered, refused, roundOne}
+use Rattle.rounding.proofs.Refusals.{accepted-inside, accepted-mode-fits, refusal-unread}
 use Rattle.rounding.proofs.Preparations.{ready-none, ready-settings, refused-is, refused-some}
 use Rattle.rounding.proofs.Agreement.{rounded-by-settings}
 
@@ -43,12 +42,11 @@ module _ (f : Format) (mode r n : ℕ) (e : n ≡ refusal f mode r) where
 
 -- ---- the answer to one pattern
 
-module _ (f : Format) (mode r word x : ℕ) (p : Prepared) (e : p ≡ prepared f mode r) where
-  -- what a call that is not refused answers: the rounded pattern
-  accepted-pattern : refusal f mode r ≡ 0 → roundedBy (settings f (modeOf mode r)) word x ≡ rounded f (modeOf mode r) word x
-  accepted-pattern none =
-      rounded-by-settings f (in-range-bounds f (accepted-in-range f mode r 0 (sym none) refl)) (modeOf mode r) (accepted-mode-fits f mode r none) word x
+-- what a call that is not refused answers: the rounded pattern
+pub accepted-pattern : (f : Format) (mode r : ℕ) → refusal f mode r ≡ 0 → (word x : ℕ) → roundedBy (settings f (modeOf mode r)) word x ≡ rounded f (modeOf mode r) word x
+accepted-pattern f mode r none = rounded-by-settings f (accepted-inside f mode r none) (modeOf mode r) (accepted-mode-fits f mode r none)
 
+module _ (f : Format) (mode r word x : ℕ) (p : Prepared) (e : p ≡ prepared f mode r) where
   pub answer-ready : (s : Settings) → p ≡ Ready s → (y : ℕ) → y ≡ roundedBy s word x → answered y ≡ roundOne f mode r word x
   unfolding prepared roundOne
   answer-ready s is y goes =
@@ -56,7 +54,7 @@ module _ (f : Format) (mode r word x : ℕ) (p : Prepared) (e : p ≡ prepared f
       let t = settings f (modeOf mode r) in
       let none = ready-none n t s (sym e ∙ is) in
       let made = ready-settings n t s (sym e ∙ is) in
-      ap answered (goes ∙ ap (λ (k : Settings). roundedBy k word x) made ∙ accepted-pattern none)
+      ap answered (goes ∙ ap (λ (k : Settings). roundedBy k word x) made ∙ accepted-pattern f mode r none word x)
       ∙ sym (ap (λ (b : Bool). cond b (answered (rounded f (modeOf mode r) word x)) (refused n)) (eq-eqb n 0 none))
 
   pub answer-refused : (n : ℕ) → p ≡ Refused n → refused n ≡ roundOne f mode r word x
@@ -69,17 +67,8 @@ module _ (f : Format) (mode r word x : ℕ) (p : Prepared) (e : p ≡ prepared f
 
 -- ---- r
 
-module _ (f : Format) (mode r s : ℕ) (other : mode ≡ 7 → ⊥) where
-  -- a mode other than 7 is refused or not whatever r is
-  pub refusal-unread : refusal f mode r ≡ refusal f mode s
-  unfolding refusal
-  refusal-unread = ap (number r) (ne-eqb mode 7 other) ∙ sym (ap (number s) (ne-eqb mode 7 other))
-    where
-      number : ℕ → Bool → ℕ
-      number b seven = cond (not (precisionFits (f .p))) 1 (cond (not (exponentFits (f .emax))) 2 (cond (ltb 8 mode) 3 (cond (seven && not (bitsFit b)) 4 0)))
-
-  -- and so is its answer
-  pub r-unread : (word x : ℕ) → roundOne f mode r word x ≡ roundOne f mode s word x
-  unfolding roundOne
-  r-unread word x =
-      ap₂ (λ (n : ℕ) (m : Mode). cond (eqb n 0) (answered (rounded f m word x)) (refused n)) refusal-unread (mode-unread mode r s other)
+-- the answer of a mode other than 7 is the same whatever r is
+pub r-unread : (f : Format) (mode r s word x : ℕ) → (mode ≡ 7 → ⊥) → roundOne f mode r word x ≡ roundOne f mode s word x
+unfolding roundOne
+r-unread f mode r s word x other =
+    ap₂ (λ (n : ℕ) (m : Mode). cond (eqb n 0) (answered (rounded f m word x)) (refused n)) (refusal-unread f mode r s other) (mode-unread mode r s other)

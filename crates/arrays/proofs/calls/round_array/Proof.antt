@@ -27,10 +27,13 @@ round-array-spec =
     (λ c. search needs)
     (λ c κs. search needs)
     round-all-requires
+    (λ c κs. search needs)
     (λ c. search needs)
     returns
     round-all-requires-2
+    (λ c κs. search needs)
     (λ c. search needs)
+    (λ c κs. search needs)
     (λ c. search needs)
     returns-2
     returns-3)

@@ -3,7 +3,7 @@ use borrow.Author.Needs.{needs}
 use native.Mathlib.Omega.{arith}
 use Rattle.grid.specs.Formats.{InRange}
 use Rattle.grid.proofs.Ranges.{in-range-bounds}
-use Rattle.magnitudes.proofs.Landmarks.{settings-are}
+use Rattle.rounding.proofs.Settings.{settings-are}
 use Rattle.rounding.proofs.derived.settings_of.Statement.{statement}
 use Rattle.rounding.proofs.derived.settings_of.Tie as tie
 

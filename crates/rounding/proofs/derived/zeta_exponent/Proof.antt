@@ -2,7 +2,7 @@
 use native.Mathlib.Omega.{arith}
 use Rattle.grid.specs.Formats.{InRange}
 use Rattle.grid.proofs.Ranges.{in-range-bounds}
-use Rattle.magnitudes.proofs.Landmarks.{zeta-exponent-sub, zeta-exponent-no-sub}
+use Rattle.rounding.proofs.Settings.{zeta-exponent-sub, zeta-exponent-no-sub}
 use Rattle.rounding.proofs.derived.zeta_exponent.Statement.{statement}
 use Rattle.rounding.proofs.derived.zeta_exponent.Tie as tie
 
