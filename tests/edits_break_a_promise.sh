@@ -1,12 +1,14 @@
 #!/usr/bin/env bash
-# Each must-fail edit has to be refused at a promise or a fact. For an edit of src/ a complaint of the
-# prover is about a need named `returns`, `returns-2`, .., or about what a loop has written so far
-# (`FilledTo` in a need named `loop-holds` or `loop-again`), and every other one is of that kind too or
-# follows from it ("was not admitted"). A complaint about a sum that may not fit, or about a proof
-# file that no longer has the right needs, shows nothing about the answer. For an edit of specs/ a fact
-# that docs/PROMISES.md lists is not proved any more, and every complaint is that a law does not hold.
-# That the edited answer is wrong, and not only another way to the right one, the prover cannot say:
-# the edit's first line has to name the rule that it breaks.
+# Each must-fail edit is of src/ or specs/, and has to be refused at a promise or a fact.
+# For an edit of src/ a complaint of the prover is about a need named `returns`, `returns-2`, .., or
+# about what a loop has written so far (`FilledTo` in a need named `loop-holds` or `loop-again`), and
+# every other one is of that kind too or follows from it ("was not admitted"). A complaint about a sum
+# that may not fit, or about a proof file that no longer has the right needs, shows nothing about the
+# answer. That the edited answer is wrong, and not only another way to the right one, the prover cannot
+# say: the edit's first line has to name the rule that it breaks.
+# For an edit of specs/ a fact that docs/PROMISES.md lists is not proved any more, every complaint is
+# that a law does not hold, and one of those laws is a closed case (proofs/Cases.antt): the definition
+# computes to something else, and is not only said in another way.
 # The prover's words on each edit stand in target/must-fail/CRATE/LABEL/.log after rt ci or
 # rt must-fail.
 set -euo pipefail
@@ -20,6 +22,10 @@ follows='was not admitted'
 # the facts that docs/PROMISES.md lists, as the prover names them in a complaint
 listed=$(grep -E '^\| .* \| `[^|]*` \| `crates/[^|]*` \|$' docs/PROMISES.md | cut -d '|' -f 4 | grep -o '`[^`]*`' |
     sed 's/^/error: /; s/$/:/' || true)
+if [ -z "$listed" ]; then
+    echo "tests/edits_break_a_promise.sh: docs/PROMISES.md lists no fact" >&2
+    exit 1
+fi
 
 tried=0 unfit=0
 for edit in crates/*/must-fail/*.edit; do
@@ -35,11 +41,13 @@ for edit in crates/*/must-fail/*.edit; do
         unfit=$((unfit + 1))
     }
     complaints=$(grep -E ': error|^note: .*: it is not proved that' "$log" || true)
+    there=$at_a_promise
     if grep -q '^file: specs/' "$edit"; then
         there=$at_a_law
         grep -qF "$listed" <<<"$complaints" || complaints="no fact of docs/PROMISES.md is refused"
-    else
-        there=$at_a_promise
+        grep -q '/proofs/Cases\.antt:' <<<"$complaints" || complaints="no closed case is refused"
+    elif ! grep -q '^file: src/' "$edit"; then
+        complaints="it is no edit of src/ or specs/"
     fi
     elsewhere=$(grep -vE "$there|$follows" <<<"$complaints" || true)
     if ! grep -qE "$there" <<<"$complaints" || [ -n "$elsewhere" ]; then
