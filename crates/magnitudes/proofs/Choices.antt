@@ -248,9 +248,14 @@ choice-far EvenChance negative n d word fits small far = refl
 
 -- ---- the choice where nothing is left
 
+-- no rest holds no share
+pub no-shares : (r G : ℕ) → K r 0 G ≡ 0
+unfolding K
+no-shares r G = ap (λ (n : ℕ). n / G) (mul-zero (2 ^ r)) ∙ zero-div G
+
 -- random bits never move an exact input: the table needs no case for it
 pub stochastic-exact : (r : ℕ) (negative : Bool) (m step word : ℕ) → takesHi (Stochastic r) negative m 0 step word ≡ false
-unfolding takesHi K
+unfolding takesHi
 stochastic-exact r negative m step word =
-    ap (λ (k : ℕ). leb (2 ^ r) (k + u r word)) (ap (λ (x : ℕ). x / step) (mul-zero (2 ^ r)) ∙ zero-div step)
+    ap (λ (k : ℕ). leb (2 ^ r) (k + u r word)) (no-shares r step)
     ∙ lt-leb (2 ^ r) (0 + u r word) (subst (λ (x : ℕ). x < 2 ^ r) (sym (zero-add (u r word))) (u-below r word))

@@ -3,8 +3,8 @@
 use mathlib.Core.Bool.{Bool, true, false, cond, false≢true}
 use mathlib.Core.Path.{_≡_, refl, sym, ap, ap₂, _∙_, subst}
 use mathlib.Core.Logic.{_⊎_, inl, inr}
-use Prim.Native.Nat.{ℕ, _+_, _-_, _/_, _^_, _≤_, _<_, zero-le}
-use native.Mathlib.Nat.{le-trans, le-of-eq, le-of-lt, lt-trans, lt-of-lt-of-le, lt-of-le-of-lt, lt-irrefl, sub-self, mul-zero, zero-div, eq-or-lt-of-le, eq-zero-or-pos, ne-of-gt, div-lt-iff-lt-mul, mul-lt-mul-of-pos-left}
+use Prim.Native.Nat.{ℕ, _+_, _-_, _^_, _≤_, _<_, zero-le}
+use native.Mathlib.Nat.{le-trans, le-of-eq, le-of-lt, lt-trans, lt-of-lt-of-le, lt-of-le-of-lt, lt-irrefl, sub-self, eq-or-lt-of-le, eq-zero-or-pos, ne-of-gt, div-lt-iff-lt-mul, mul-lt-mul-of-pos-left}
 use native.Mathlib.Omega.{arith}
 use lib.Dec.{leb, lit<}
 use lib.Pow.{pow-pos}
@@ -26,7 +26,7 @@ use Rattle.grid.proofs.Ends.{xmax-whole, xmax-below-top, xmax-candidate}
 use Rattle.magnitudes.specs.declared.Mode.the-variants.{Stochastic}
 use Rattle.magnitudes.specs.Modes.{K, u}
 use Rattle.magnitudes.specs.Destinations.{written}
-use Rattle.magnitudes.proofs.Choices.{u-below}
+use Rattle.magnitudes.proofs.Choices.{u-below, no-shares}
 use Rattle.rounding.specs.Rounded.{rounded}
 use Rattle.meaning.proofs.Destinations.{below-written, written-most}
 use Rattle.meaning.proofs.Answers.{specials-come-back, sign-kept, stochastic-answer}
@@ -92,11 +92,6 @@ pub shares-below : (r rest G : ℕ) → rest < G → K r rest G < 2 ^ r
 unfolding K
 shares-below r rest G h = div-lt-iff-lt-mul (lt-of-le-of-lt zero-le h) .1 (mul-lt-mul-of-pos-left h (pow-pos r))
 
--- and no rest none of them
-shares-none : (r G : ℕ) → K r 0 G ≡ 0
-unfolding K
-shares-none r G = ap (λ (n : ℕ). n / G) (mul-zero (2 ^ r)) ∙ zero-div G
-
 -- the candidate that a goes to with the random number n: hi where K and n make 2^r, and lo where not
 unfoldable pub takenWith : Format → ℕ → ℕ → ℕ → ℕ
 takenWith f r a n = cond (leb (2 ^ r) (K r (rest f a) (step f a) + n)) (hi f a) (lo f a)
@@ -107,7 +102,7 @@ unfolding takenWith
 taken-exact f r a n small exact =
     let G = step f a in
     let none : rest f a ≡ 0 = ap (λ (m : ℕ). a - m) exact ∙ sub-self a in
-    let no-share : K r (rest f a) G ≡ 0 = ap (λ (t : ℕ). K r t G) none ∙ shares-none r G in
+    let no-share : K r (rest f a) G ≡ 0 = ap (λ (t : ℕ). K r t G) none ∙ no-shares r G in
     ap (λ (b : Bool). cond b (hi f a) (lo f a)) (lt-leb (2 ^ r) (K r (rest f a) G + n) (omega arith)) ∙ exact
 
 module _ (f : Format) (inside : InRange f) (r a n : ℕ) where
