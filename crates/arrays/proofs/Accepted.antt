@@ -2,8 +2,8 @@
 use mathlib.Core.Bool.{Bool, true, false, cond, not, _&&_}
 use mathlib.Core.Path.{_≡_, refl, sym, ap, _∙_}
 use Prim.Native.Nat.{ℕ, _≤_}
-use lib.Dec.{ltb, eqb}
 use native.Mathlib.Omega.{arith}
+use lib.Dec.{ltb, eqb}
 use borrow.Author.Tests.{ltb-false, eqb-true, le-ltb, eq-eqb}
 use Rattle.grid.specs.declared.Format.{Format}
 use Rattle.magnitudes.specs.declared.Mode.{Mode}

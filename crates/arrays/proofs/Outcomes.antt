@@ -11,12 +11,12 @@ use Rattle.laws.specs.Lists.{tab}
 use Rattle.laws.proofs.Lists.{tab-alike}
 use Rattle.grid.specs.declared.Format.{Format}
 use Rattle.magnitudes.specs.Modes.{modeOf, usesWord}
+use Rattle.magnitudes.specs.BySettings.{settings}
 use Rattle.rounding.specs.Rounded.{rounded}
 use Rattle.rounding.specs.Calls.{refusal}
-use Rattle.magnitudes.specs.BySettings.{settings}
+use Rattle.rounding.proofs.WholeCalls.{accepted-pattern}
 use Rattle.arrays.specs.Rounding.{arrayRefusal, refusalOf, roundedAt, afterwards}
 use Rattle.arrays.specs.Loops.{roundedByAt, roundedAllBy}
-use Rattle.rounding.proofs.WholeCalls.{accepted-pattern}
 use Rattle.arrays.proofs.Accepted.{numbers-accepted}
 use Rattle.arrays.proofs.UnreadWords.{unused-unread}
 

@@ -7,11 +7,11 @@ use Prim.Native.Nat.{ℕ, _≤_}
 use lib.ListN.{length}
 use Rattle.grid.specs.declared.Format.{Format}
 use Rattle.magnitudes.specs.declared.Settings.{Settings}
-use Rattle.rounding.specs.declared.Prepared.{Prepared}
-use Rattle.rounding.specs.declared.Prepared.the-variants.{Ready, Refused}
 use Rattle.magnitudes.specs.declared.Mode.{Mode}
 use Rattle.magnitudes.specs.Modes.{modeOf, usesWord}
 use Rattle.magnitudes.specs.BySettings.{settings}
+use Rattle.rounding.specs.declared.Prepared.{Prepared}
+use Rattle.rounding.specs.declared.Prepared.the-variants.{Ready, Refused}
 use Rattle.rounding.proofs.Preparations.{ready-none, ready-settings, refused-is, refused-some}
 use Rattle.arrays.specs.declared.Report.{Report}
 use Rattle.arrays.specs.Rounding.{lengthsRefusal, refusalOf, report, reported, afterwards}

@@ -1,8 +1,10 @@
--- The modes by number: 0 to 6, 7, which keeps r, and what is above. Assumes nothing.
+-- The modes by number: 0 to 6, which look at no word, 7, which keeps r, and what is above. Assumes nothing.
+use mathlib.Core.Bool.{false}
 use mathlib.Core.Path.{_≡_, refl, sym, ap, _∙_}
-use Prim.Native.Nat.{ℕ, zero, suc}
+use Prim.Native.Nat.{ℕ, zero, suc, _<_}
+use native.Mathlib.Omega.{arith}
 use Rattle.magnitudes.specs.declared.Mode.the-variants.{Stochastic, EvenChance}
-use Rattle.magnitudes.specs.Modes.{modeOf}
+use Rattle.magnitudes.specs.Modes.{modeOf, usesWord}
 
 -- what holds for each number up to 7, and for all above, holds for every number
 pub number-cases : (P : ℕ → Type 0) → P 0 → P 1 → P 2 → P 3 → P 4 → P 5 → P 6 → P 7 → ((n : ℕ) → P (suc (suc (suc (suc (suc (suc (suc (suc n))))))))) → (n : ℕ) → P n
@@ -35,6 +37,14 @@ mode-past n r a b c d e f g h =
     (λ i. absurd (a (sym i))) (λ i. absurd (b (sym i))) (λ i. absurd (c (sym i))) (λ i. absurd (d (sym i)))
     (λ i. absurd (e (sym i))) (λ i. absurd (f (sym i))) (λ i. absurd (g (sym i))) (λ i. absurd (h (sym i)))
     (λ k i. mode-above k r ∙ ap (λ (j : ℕ). modeOf j r) i) n refl
+
+-- no mode below 7 looks at the word
+pub no-word-below-seven : (n r : ℕ) → n < 7 → usesWord (modeOf n r) ≡ false
+unfolding modeOf usesWord
+no-word-below-seven n r =
+    number-cases (λ (k : ℕ). k < 7 → usesWord (modeOf k r) ≡ false)
+    (λ h. refl) (λ h. refl) (λ h. refl) (λ h. refl) (λ h. refl) (λ h. refl) (λ h. refl) (λ h. absurd (omega arith))
+    (λ k h. absurd (omega arith)) n
 
 -- and no number but 7 looks at r
 pub mode-unread : (n r s : ℕ) → (n ≡ 7 → ⊥) → modeOf n r ≡ modeOf n s

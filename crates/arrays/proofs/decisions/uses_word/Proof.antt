@@ -1,8 +1,8 @@
 -- `arrays::decisions::uses_word` meets its contract. Assumes nothing.
 use borrow.Author.Needs.{needs}
+use Rattle.magnitudes.specs.Modes.{usesWord}
 use Rattle.arrays.proofs.decisions.uses_word.Statement.{statement}
 use Rattle.arrays.proofs.decisions.uses_word.Tie as tie
-use Rattle.magnitudes.specs.Modes.{usesWord}
 
 returns : tie.Need-returns
 unfolding usesWord
