@@ -21,24 +21,26 @@ use Rattle.arrays.proofs.Accepted.{numbers-accepted}
 use Rattle.arrays.proofs.UnreadWords.{unused-unread}
 
 module _ (f : Format) (mode r : ℕ) (words xs out : List ℕ) where
+  -- what is left in an output that held l, by whether the call is accepted
+  abbrev left : List ℕ → Bool → List ℕ
+  left l accepted = cond accepted (tab (length xs) (roundedAt f (modeOf mode r) words xs)) l
+
   -- a refused call leaves what there was
   pub refused-afterwards : eqb (refusalOf f mode r words xs out) 0 ≡ false → afterwards f mode r words xs out ≡ out
   unfolding afterwards
-  refused-afterwards rejected = ap (λ (b : Bool). cond b (tab (length xs) (roundedAt f (modeOf mode r) words xs)) out) rejected
+  refused-afterwards rejected = ap (left out) rejected
 
   module _ (none : refusalOf f mode r words xs out ≡ 0) where
     -- an accepted one leaves every place's answer
     pub accepted-afterwards : afterwards f mode r words xs out ≡ tab (length xs) (roundedAt f (modeOf mode r) words xs)
     unfolding afterwards
-    accepted-afterwards =
-        ap (λ (b : Bool). cond b (tab (length xs) (roundedAt f (modeOf mode r) words xs)) out)
-        (eq-eqb (refusalOf f mode r words xs out) 0 none)
+    accepted-afterwards = ap (left out) (eq-eqb (refusalOf f mode r words xs out) 0 none)
 
     -- whatever the output held before
     pub held-unread : (held : List ℕ) → length held ≡ length out → afterwards f mode r words xs held ≡ afterwards f mode r words xs out
     unfolding afterwards
     held-unread held long =
-        ap (λ (b : Bool). cond b (tab (length xs) (roundedAt f (modeOf mode r) words xs)) held)
+        ap (left held)
         (eq-eqb (refusalOf f mode r words xs held) 0 (ap (arrayRefusal f mode r (length words) (length xs)) long ∙ none))
         ∙ sym accepted-afterwards
 
