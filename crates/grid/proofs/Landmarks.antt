@@ -1,4 +1,5 @@
--- The landmarks of a format: their patterns as the code makes them in range, and 0 out of range. Assumes nothing.
+-- The landmarks of a format: their patterns, and zeta's exponent, as the code makes them in range, and 0 out of range. Assumes
+-- nothing.
 use mathlib.Core.Bool.{Bool, true, false, cond}
 use mathlib.Core.Path.{_≡_, sym, ap, _∙_}
 use mathlib.Core.Logic.{inr}
@@ -12,18 +13,27 @@ use Rattle.patterns.specs.Patterns.{pat, powerPattern}
 use Rattle.patterns.proofs.Values.{pat-at}
 use Rattle.patterns.proofs.Powers.{pat-power, power-pattern-is}
 use Rattle.grid.specs.declared.Format.{Format}
-use Rattle.grid.specs.Formats.{inRange, InRange, emin, etop, smallestNormal, xmax, T, patternIn}
+use Rattle.grid.specs.Formats.{inRange, InRange, emin, etop, smallestNormal, zetaExp, xmax, T, patternIn, exponentIn}
 use Rattle.grid.proofs.Ranges.{in-range-bounds}
+use Rattle.grid.proofs.Steps.{zeta-sub, zeta-no-sub}
 
 module _ (f : Format) (b : Bool) (tested : b ≡ inRange f) where
   pub pattern-out-of-range : (n : ℕ) → b ≡ false → 0 ≡ patternIn f n
   unfolding patternIn
   pattern-out-of-range n out = sym (ap (λ (t : Bool). cond t (pat n) 0) (sym tested ∙ out))
 
+  pub exponent-out-of-range : (e : ℕ) → b ≡ false → 0 ≡ exponentIn f e
+  unfolding exponentIn
+  exponent-out-of-range e out = sym (ap (λ (t : Bool). cond t e 0) (sym tested ∙ out))
+
   module _ (passed : b ≡ true) where
     pub pattern-in-range : (n : ℕ) → patternIn f n ≡ pat n
     unfolding patternIn
     pattern-in-range n = ap (λ (t : Bool). cond t (pat n) 0) (sym tested ∙ passed)
+
+    pub exponent-in-range : (e : ℕ) → exponentIn f e ≡ e
+    unfolding exponentIn
+    exponent-in-range e = ap (λ (t : Bool). cond t e 0) (sym tested ∙ passed)
 
     -- the settings have their bounds, so that the code's sums and differences of them fit
     pub range-passed : InRange f
@@ -36,6 +46,14 @@ module _ (f : Format) (b : Bool) (tested : b ≡ inRange f) where
     pub top-pattern-is : (y : ℕ) → y ≡ powerPattern (1075 + f .emax) → y ≡ patternIn f (T f)
     unfolding T etop
     top-pattern-is y e = e ∙ power-pattern-is (1075 + f .emax) (omega (arith, range-passed .emax-most)) ∙ sym (pattern-in-range (T f))
+
+    pub zeta-exponent-sub : f .sub ≡ true → 1076 - f .emax - f .p ≡ exponentIn f (zetaExp f)
+    unfolding emin
+    zeta-exponent-sub kept = omega (arith, range-passed, zeta-sub f range-passed kept, exponent-in-range (zetaExp f))
+
+    pub zeta-exponent-no-sub : f .sub ≡ false → 1075 - f .emax ≡ exponentIn f (zetaExp f)
+    unfolding emin
+    zeta-exponent-no-sub none = omega (arith, zeta-no-sub f range-passed none, exponent-in-range (zetaExp f))
 
     -- xmax is T less one in the last of p places, and its pattern is the pattern of T less the same
     pub xmax-then-top : pat (xmax f) + 2 ^ (53 - f .p) ≡ pat (T f)

@@ -1,23 +1,26 @@
 -- lo and hi are what document 01 says: for every format in range and every magnitude below T, the largest candidate not
 -- above it and the next one, and no other numbers are. All of it rests on one law, `step-within`: from lo up to hi the step
 -- does not change. Assumes nothing.
-use mathlib.Core.Bool.{true}
+use mathlib.Core.Bool.{Bool, true, _&&_}
 use mathlib.Core.Path.{_≡_, sym, ap, _∙_, subst}
 use mathlib.Core.Logic.{_⊎_, inl, inr}
 use Prim.Native.Nat.{ℕ, suc, _+_, _-_, _*_, _/_, _^_, _≤_, _<_}
 use native.Mathlib.Nat.{le-refl, le-trans, le-antisymm, le-of-lt, lt-irrefl, lt-of-lt-of-le, lt-of-le-of-lt, div-mul-le-self, lt-div-mul-add, zero-add, suc-mul, pow-succ', le-suc, le-div-iff-mul-le, mul-le-mul-right}
 use native.Mathlib.Omega.{arith}
 use lib.Pow.{pow-pos, pow-mono}
+use lib.Dec.{ltb, eqb}
 use lib.Ieee.{size}
 use lib.Ieee.Digits.{size-lt, size-le}
+use borrow.Author.Tests.{ltb-true, lt-ltb, eqb-true, eq-eqb}
 use Rattle.laws.proofs.Digits.{size-is, size-first, size-pow}
 use Rattle.laws.proofs.Multiples.{multiples-apart, multiples-in, multiple-whole, multiple-none, pow-whole}
 use Rattle.laws.proofs.Orders.{below-or-not, le-of-not-lt}
+use Rattle.laws.proofs.Tests.{and-left, and-right}
 use Rattle.grid.specs.declared.Format.{Format}
 use Rattle.grid.specs.Formats.{InRange, emin, zetaExp, stepExp, step, zeta, T}
 use Rattle.grid.specs.Candidates.{Candidate}
 use Rattle.grid.specs.Candidates.Candidate.{top}
-use Rattle.grid.specs.Neighbours.{Lo, Hi, lo, hi}
+use Rattle.grid.specs.Neighbours.{Lo, Hi, lo, hi, held}
 use Rattle.grid.proofs.Steps.{step-below-zeta, step-of-power, step-doubles, step-stays, top-in-steps}
 use Rattle.grid.proofs.Candidates.{candidate-whole, whole-candidate, power-whole}
 
@@ -224,6 +227,28 @@ module _ (f : Format) (r : InRange f) where
           le-antisymm
           (le-of-not-lt (none (hi f a) hi-candidate (lt-of-le-of-lt not-above (hi-above f a))))
           (hi-is-hi .next y y-among (lt-of-le-of-lt (lo-not-above f a) above))
+
+-- ---- what the format holds
+
+-- where the test holds, the magnitude is below T and a candidate,
+pub held-below : (f : Format) (a : ℕ) → held f a ≡ true → a < T f
+unfolding held
+held-below f a h = ltb-true a (T f) (and-left (ltb a (T f)) (eqb (lo f a) a) h)
+
+pub held-whole : (f : Format) (a : ℕ) → held f a ≡ true → lo f a ≡ a
+unfolding held
+held-whole f a h = eqb-true (lo f a) a (and-right (ltb a (T f)) (eqb (lo f a) a) h)
+
+pub held-candidate : (f : Format) → InRange f → (a : ℕ) → held f a ≡ true → Candidate f a
+held-candidate f r a h = whole-candidate f r a (held-below f a h) (held-whole f a h)
+
+-- and it holds of every candidate below T
+pub whole-held : (f : Format) (a : ℕ) → a < T f → lo f a ≡ a → held f a ≡ true
+unfolding held
+whole-held f a below whole = ap (λ (b : Bool). b && eqb (lo f a) a) (lt-ltb a (T f) below) ∙ eq-eqb (lo f a) a whole
+
+pub candidate-held : (f : Format) → InRange f → (a : ℕ) → Candidate f a → a < T f → held f a ≡ true
+candidate-held f r a among below = whole-held f a below (candidate-whole f r a among)
 
 -- lo is the only number with its property, and so is hi
 pub lo-unique : (f : Format) (a x y : ℕ) → Lo f a x → Lo f a y → x ≡ y

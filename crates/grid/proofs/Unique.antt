@@ -6,6 +6,7 @@ use Rattle.grid.proofs.formats.precision_fits.Reads as precision-fits
 use Rattle.grid.proofs.formats.exponent_fits.Reads as exponent-fits
 use Rattle.grid.proofs.formats.in_range.Reads as in-range
 use Rattle.grid.proofs.formats.smallest_normal_pattern.Reads as smallest-normal-pattern
+use Rattle.grid.proofs.formats.zeta_exponent.Reads as zeta-exponent
 use Rattle.grid.proofs.formats.top_pattern.Reads as top-pattern
 use Rattle.grid.proofs.formats.xmax_pattern.Reads as xmax-pattern
 
@@ -20,6 +21,9 @@ in-range-unique κs a y z s t p q = p ∙ sym q
 
 pub smallest-normal-pattern-unique : OneAnswer smallest-normal-pattern.Post
 smallest-normal-pattern-unique κs a y z s t p q = p ∙ sym q
+
+pub zeta-exponent-unique : OneAnswer zeta-exponent.Post
+zeta-exponent-unique κs a y z s t p q = p ∙ sym q
 
 pub top-pattern-unique : OneAnswer top-pattern.Post
 top-pattern-unique κs a y z s t p q = p ∙ sym q

@@ -72,3 +72,7 @@ step f a = 2 ^ stepExp f (size a)
 -- the pattern of a magnitude that belongs to a format, and 0 where the format is out of range and has none (decision 7)
 unfoldable pub patternIn : Format → ℕ → ℕ
 patternIn f n = cond (inRange f) (pat n) 0
+
+-- and an exponent in the same way
+unfoldable pub exponentIn : Format → ℕ → ℕ
+exponentIn f e = cond (inRange f) e 0

@@ -1,11 +1,14 @@
 // A format's settings and the patterns of its landmarks.
 ghost use mathlib.Core.Path.{_≡_};
-ghost use Rattle.grid.specs.Formats.{precisionFits, exponentFits, inRange, smallestNormal, xmax, T, patternIn};
+ghost use Rattle.grid.specs.Formats.{precisionFits, exponentFits, inRange, smallestNormal, zetaExp, xmax, T, patternIn, exponentIn};
 use super::Format;
 use patterns::power_pattern;
 
 // What a format out of range gets for the pattern of a landmark.
 const NO_PATTERN: u64 = 0;
+
+// And for an exponent.
+const NO_EXPONENT: u64 = 0;
 
 // Whether p is from 2 to 53.
 pub fn precision_fits(p: u64) -> bool
@@ -36,6 +39,20 @@ pub fn smallest_normal_pattern(f: Format) -> u64
         return power_pattern(1075 - f.emax);
     }
     NO_PATTERN
+}
+
+// The exponent of zeta, counted from 2^-1074: p - 1 places below the smallest normal number's with
+// subnormals, and that number's without; 0 for a format out of range.
+pub fn zeta_exponent(f: Format) -> u64
+    ensures { λ r. ⌜ r ≡ exponentIn f (zetaExp f) ⌝ }
+{
+    if in_range(f) {
+        if f.sub {
+            return 1076 - f.emax - f.p;
+        }
+        return 1075 - f.emax;
+    }
+    NO_EXPONENT
 }
 
 // The pattern of T, the next candidate above the largest finite number; 0 for a format out of range.

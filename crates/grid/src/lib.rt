@@ -8,6 +8,7 @@ pub use formats::precision_fits;
 pub use formats::smallest_normal_pattern;
 pub use formats::top_pattern;
 pub use formats::xmax_pattern;
+pub use formats::zeta_exponent;
 
 // A target format: precision p in binary digits, the largest exponent emax, and whether subnormal
 // numbers are kept. Any numbers may stand here; `in_range` tells whether the format is one of ours.

@@ -1,7 +1,7 @@
 -- Words of w bits, as shifts and masks leave them. Assumes nothing.
-use mathlib.Core.Path.{_≡_, ap, _∙_, subst}
+use mathlib.Core.Path.{_≡_, sym, ap, _∙_, subst}
 use Prim.Native.Nat.{ℕ, _+_, _-_, _*_, _/_, _%_, _^_, _≤_, _<_}
-use native.Mathlib.Nat.{le-trans, lt-of-lt-of-le, one-mul, mul-le-mul, mod-le, div-eq-of-lt, mod-eq-of-lt}
+use native.Mathlib.Nat.{le-trans, lt-of-lt-of-le, one-mul, mul-assoc, mul-le-mul, mul-mod-left, mod-le, div-eq-of-lt, mod-eq-of-lt, sub-add-cancel}
 use lib.Bits.{bitAnd, and-mask}
 use lib.Pow.{pow-add, pow-mono, pow-lt}
 
@@ -25,3 +25,11 @@ low-past w n d h g = mod-eq-of-lt (lt-of-lt-of-le h (pow-mono g))
 -- a mask of d ones leaves the digits below d
 pub low-masked : (w n d : ℕ) → d < w → bitAnd n (1 * 2 ^ d % 2 ^ w - 1) ≡ n % 2 ^ d
 low-masked w n d h = ap (λ (x : ℕ). bitAnd n (x - 1)) (one-shifted w d h) ∙ and-mask n d
+
+-- nothing stays of what is moved past the word
+pub moved-past : (w n d : ℕ) → w ≤ d → n * 2 ^ d % 2 ^ w ≡ 0
+moved-past w n d past =
+    ap (λ (k : ℕ). n * 2 ^ k % 2 ^ w) (sym (sub-add-cancel past))
+    ∙ ap (λ (x : ℕ). n * x % 2 ^ w) (pow-add 2 (d - w) w)
+    ∙ ap (λ (x : ℕ). x % 2 ^ w) (sym (mul-assoc n (2 ^ (d - w)) (2 ^ w)))
+    ∙ mul-mod-left (n * 2 ^ (d - w)) (2 ^ w)

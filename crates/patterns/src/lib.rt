@@ -13,6 +13,7 @@ pub use binary64::significand_of;
 pub use binary64::with_sign;
 pub use places::high_part;
 pub use places::low_part;
+pub use places::moved_up;
 
 // What a binary64 pattern is, whatever its sign. Finite leaves out zero.
 pub enum Kind {

@@ -1,6 +1,7 @@
-// A number cut in two at a place. Any place may be asked for: past the last digit nothing is high.
+// A number cut in two at a place, and a number moved up. Any place may be asked for: past the last
+// digit nothing is high, and nothing stays of what is moved past the word.
 ghost use mathlib.Core.Path.{_≡_};
-ghost use Rattle.patterns.specs.Places.{high, low};
+ghost use Rattle.patterns.specs.Places.{high, low, movedUp};
 
 // The digits of n from place d on.
 pub fn high_part(n: u64, d: u64) -> u64
@@ -20,4 +21,14 @@ pub fn low_part(n: u64, d: u64) -> u64
         return n & ((1 << d) - 1);
     }
     n
+}
+
+// n moved up by d places, as far as the word reaches.
+pub fn moved_up(n: u64, d: u64) -> u64
+    ensures { λ r. ⌜ r ≡ movedUp n d ⌝ }
+{
+    if d < 64 {
+        return n << d;
+    }
+    0
 }

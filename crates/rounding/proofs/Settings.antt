@@ -1,15 +1,15 @@
 -- The settings for a format and a mode, as the code works them out. Assumes nothing.
-use mathlib.Core.Bool.{true, false}
+use mathlib.Core.Bool.{true}
 use mathlib.Core.Path.{_≡_, refl, sym}
 use Prim.Native.Nat.{ℕ, _+_, _-_, _≤_}
 use native.Mathlib.Omega.{arith}
 use Rattle.patterns.specs.Patterns.{powerPattern}
 use Rattle.patterns.proofs.Powers.{power-pattern-is}
 use Rattle.grid.specs.declared.Format.{Format}
-use Rattle.grid.specs.Formats.{inRange, InRange, emin, zetaExp, zeta, xmax, T, patternIn}
+use Rattle.grid.specs.Formats.{inRange, InRange, emin, zetaExp, zeta, xmax, T, patternIn, exponentIn}
 use Rattle.grid.proofs.Ranges.{in-range-bounds}
-use Rattle.grid.proofs.Landmarks.{pattern-in-range}
-use Rattle.grid.proofs.Steps.{zeta-sub, zeta-no-sub, zeta-not-above}
+use Rattle.grid.proofs.Landmarks.{pattern-in-range, exponent-in-range}
+use Rattle.grid.proofs.Steps.{zeta-not-above}
 use Rattle.magnitudes.specs.declared.Mode.{Mode}
 use Rattle.magnitudes.specs.BySettings.{settings}
 
@@ -17,17 +17,9 @@ module _ (f : Format) (passed : inRange f ≡ true) where
   bounds : InRange f
   bounds = in-range-bounds f passed
 
-  pub zeta-exponent-sub : f .sub ≡ true → 1076 - f .emax - f .p ≡ zetaExp f
-  unfolding emin
-  zeta-exponent-sub kept = omega (arith, bounds, zeta-sub f bounds kept)
-
-  pub zeta-exponent-no-sub : f .sub ≡ false → 1075 - f .emax ≡ zetaExp f
-  unfolding emin
-  zeta-exponent-no-sub none = sym (zeta-no-sub f bounds none)
-
-  pub settings-are : (mode : Mode) (bottom : ℕ) → bottom ≡ zetaExp f → (z x t : ℕ) → z ≡ powerPattern bottom → x ≡ patternIn f (xmax f) → t ≡ patternIn f (T f)
+  pub settings-are : (mode : Mode) (bottom : ℕ) → bottom ≡ exponentIn f (zetaExp f) → (z x t : ℕ) → z ≡ powerPattern bottom → x ≡ patternIn f (xmax f) → t ≡ patternIn f (T f)
       → record { mode = mode; cut = 53 - f .p; emin = 1075 - f .emax; bottom = bottom; zeta = z; xmax = x; top = t } ≡ settings f mode
   unfolding settings emin zeta
   settings-are mode bottom b z x t zs xs ts =
       let few : zetaExp f ≤ 1074 + 1024 = omega (arith, bounds, zeta-not-above f bounds) in
-      simp (zs, b, power-pattern-is (zetaExp f) few, xs, ts, pattern-in-range f true (sym passed) refl (xmax f), pattern-in-range f true (sym passed) refl (T f))
+      simp (zs, b, exponent-in-range f true (sym passed) refl (zetaExp f), power-pattern-is (zetaExp f) few, xs, ts, pattern-in-range f true (sym passed) refl (xmax f), pattern-in-range f true (sym passed) refl (T f))

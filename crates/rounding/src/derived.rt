@@ -1,26 +1,15 @@
 // What depends only on the format and the mode.
 ghost use mathlib.Core.Bool.{true};
 ghost use mathlib.Core.Path.{_≡_};
-ghost use Rattle.grid.specs.Formats.{inRange, zetaExp};
+ghost use Rattle.grid.specs.Formats.{inRange};
 ghost use Rattle.magnitudes.specs.BySettings.{settings};
 use grid::Format;
 use grid::top_pattern;
 use grid::xmax_pattern;
+use grid::zeta_exponent;
 use magnitudes::Mode;
 use magnitudes::Settings;
 use patterns::power_pattern;
-
-// The exponent of zeta: p - 1 places below the smallest normal number's with subnormals, and that
-// number's without.
-fn zeta_exponent(f: Format) -> u64
-    requires { ⌜ inRange f ≡ true ⌝ }
-    ensures { λ y. ⌜ y ≡ zetaExp f ⌝ }
-{
-    if f.sub {
-        return 1076 - f.emax - f.p;
-    }
-    1075 - f.emax
-}
 
 // The settings for a format and a mode.
 pub(crate) fn settings_of(f: Format, mode: Mode) -> Settings

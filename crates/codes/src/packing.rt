@@ -1,0 +1,91 @@
+// A pattern's code, by a layout. `x` is a pattern, `m` its magnitude, `n` the exponent and fraction
+// fields of a code as one number.
+ghost use mathlib.Core.Path.{_≡_};
+ghost use Rattle.codes.specs.ByLayout.{depth, heldBy, finiteFields, codeBy, finiteBy, packedBy};
+use super::Packed;
+use layouts::Layout;
+use patterns::Kind;
+use patterns::exponent_of;
+use patterns::high_part;
+use patterns::kind_of;
+use patterns::low_part;
+use patterns::magnitude_of;
+use patterns::moved_up;
+use patterns::significand_of;
+use patterns::with_sign;
+use std::num::wrapping_add_u64;
+
+// The place of the last digit that a number below the normal range may have.
+fn depth_of(bottom: u64, m: u64) -> u64
+    ensures { λ y. ⌜ y ≡ depth bottom m ⌝ }
+{
+    let e = exponent_of(m);
+    if e < bottom {
+        return bottom - e;
+    }
+    0
+}
+
+// Whether a finite magnitude is one of the format's: no digit stands below its last place, and it is
+// below T.
+fn holds(l: Layout, m: u64) -> bool
+    ensures { λ y. ⌜ y ≡ heldBy l m ⌝ }
+{
+    if m < l.normal {
+        return low_part(significand_of(m), depth_of(l.bottom, m)) == 0;
+    }
+    m < l.top && low_part(m, l.cut) == 0
+}
+
+// The fields of a magnitude that is: below the normal range its digits down to that place, else how
+// far it is above the smallest normal number, in its own last places.
+fn finite_fields(l: Layout, m: u64) -> u64
+    ensures { λ y. ⌜ y ≡ finiteFields l m ⌝ }
+{
+    if m < l.normal {
+        return high_part(significand_of(m), depth_of(l.bottom, m));
+    }
+    wrapping_add_u64(high_part(m - l.normal, l.cut), l.first)
+}
+
+// The fields below the sign of x: put together at the top of a word, and moved down.
+fn code_of(l: Layout, x: u64, n: u64) -> u64
+    ensures { λ y. ⌜ y ≡ codeBy l x n ⌝ }
+{
+    high_part(with_sign(x, moved_up(n, l.spare)), l.spare)
+}
+
+// A finite pattern's code, or refusal 8.
+fn pack_finite(l: Layout, x: u64) -> Packed
+    ensures { λ y. ⌜ y ≡ finiteBy l x ⌝ }
+{
+    let m = magnitude_of(x);
+    if holds(l, m) {
+        return Packed {
+            number: 0,
+            code: code_of(l, x, finite_fields(l, m)),
+        };
+    }
+    Packed { number: 8, code: 0 }
+}
+
+// The pattern x packed by the layout, or refusal 8.
+pub fn pack_by(l: Layout, x: u64) -> Packed
+    ensures { λ y. ⌜ y ≡ packedBy l x ⌝ }
+{
+    match kind_of(x) {
+        Kind::Zero => Packed {
+            number: 0,
+            code: code_of(l, x, 0),
+        },
+        Kind::Finite => pack_finite(l, x),
+        Kind::Infinity => Packed {
+            number: 0,
+            code: code_of(l, x, l.infinity),
+        },
+        Kind::NaN => Packed {
+            number: 0,
+            code: code_of(l, x, l.nan),
+        },
+    }
+}

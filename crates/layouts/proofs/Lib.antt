@@ -1,0 +1,4 @@
+-- The laws on fields and layouts, a subject a file.
+pub mod Fields
+pub mod Refusals
+

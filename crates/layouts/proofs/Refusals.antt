@@ -1,0 +1,100 @@
+-- The refusals that come before any code or pattern is looked at, as the code comes to them, and what a format that is not refused
+-- may lean on. Assumes nothing.
+use mathlib.Core.Bool.{Bool, true, false, cond, not, _&&_, false≢true}
+use mathlib.Core.Path.{_≡_, refl, sym, ap, _∙_}
+use Prim.Native.Nat.{ℕ}
+use native.Mathlib.Omega.{arith}
+use lib.Dec.{eqb}
+use borrow.Author.Tests.{eq-eqb, eqb-true}
+use Rattle.laws.proofs.Tests.{and-left, and-right}
+use Rattle.grid.specs.declared.Format.{Format}
+use Rattle.grid.specs.Formats.{precisionFits, exponentFits, inRange, InRange}
+use Rattle.grid.proofs.Ranges.{in-range-bounds, bounds-in-range}
+use Rattle.layouts.specs.declared.Laid.{Laid}
+use Rattle.layouts.specs.Fields.{hasCode, HasCode}
+use Rattle.layouts.specs.Calls.{formatRefusal}
+use Rattle.layouts.specs.Layouts.{layout, ready, refused, laid}
+use Rattle.layouts.proofs.Fields.{tested-has-code, has-code-tested}
+
+-- ---- one test after the other
+
+module _ (f : Format) (p : Bool) (p-tested : p ≡ precisionFits (f .p)) where
+  pub refuses-precision : not p ≡ true → 1 ≡ formatRefusal f
+  unfolding formatRefusal
+  refuses-precision p-fails = simp (← p-tested, p-fails)
+
+  module _ (p-fits : not p ≡ false) (x : Bool) (x-tested : x ≡ exponentFits (f .emax)) where
+    pub refuses-exponent : not x ≡ true → 2 ≡ formatRefusal f
+    unfolding formatRefusal
+    refuses-exponent x-fails = simp (← p-tested, p-fits, ← x-tested, x-fails)
+
+    module _ (x-fits : not x ≡ false) where
+      -- only a format in range is asked for its code
+      pub asked-in-range : inRange f ≡ true
+      unfolding inRange
+      asked-in-range = go p x p-fits x-fits p-tested x-tested
+        where
+          go : (p x : Bool) → not p ≡ false → not x ≡ false → p ≡ precisionFits (f .p) → x ≡ exponentFits (f .emax) → inRange f ≡ true
+          go true true g h a b = simp (← a, ← b)
+          go true false g h a b = absurd (false≢true (sym h))
+          go false x g h a b = absurd (false≢true (sym g))
+
+      module _ (c : Bool) (c-tested : c ≡ hasCode f) where
+        pub accepts-code : c ≡ true → 0 ≡ formatRefusal f
+        unfolding formatRefusal
+        accepts-code has = simp (← p-tested, p-fits, ← x-tested, x-fits, ← c-tested, has)
+
+        pub refuses-code : c ≡ false → 7 ≡ formatRefusal f
+        unfolding formatRefusal
+        refuses-code lacks = simp (← p-tested, p-fits, ← x-tested, x-fits, ← c-tested, lacks)
+
+-- ---- a format that is not refused
+
+pub accepted-in-range : (f : Format) → formatRefusal f ≡ 0 → inRange f ≡ true
+unfolding formatRefusal inRange
+accepted-in-range f none = go (precisionFits (f .p)) (exponentFits (f .emax)) none
+  where
+    go : (p x : Bool) → _≡_ {A = ℕ} (cond (not p) 1 (cond (not x) 2 (cond (not (hasCode f)) 7 0))) 0 → (p && x) ≡ true
+    go true true h = refl
+    go true false h = absurd (omega arith)
+    go false x h = absurd (omega arith)
+
+accepted-tested : (f : Format) → formatRefusal f ≡ 0 → hasCode f ≡ true
+unfolding formatRefusal
+accepted-tested f none = go (precisionFits (f .p)) (exponentFits (f .emax)) (hasCode f) none
+  where
+    go : (p x c : Bool) → _≡_ {A = ℕ} (cond (not p) 1 (cond (not x) 2 (cond (not c) 7 0))) 0 → c ≡ true
+    go true true true h = refl
+    go true true false h = absurd (omega arith)
+    go true false c h = absurd (omega arith)
+    go false x c h = absurd (omega arith)
+
+-- is in range and has a code
+pub accepted-has-code : (f : Format) → formatRefusal f ≡ 0 → HasCode f
+accepted-has-code f none = tested-has-code f (in-range-bounds f (accepted-in-range f none)) (accepted-tested f none)
+
+-- and every such format is accepted
+pub has-code-accepted : (f : Format) → HasCode f → formatRefusal f ≡ 0
+unfolding formatRefusal inRange
+has-code-accepted f h =
+    let fits = bounds-in-range f (h .range) in
+    simp (and-left (precisionFits (f .p)) (exponentFits (f .emax)) fits, and-right (precisionFits (f .p)) (exponentFits (f .emax)) fits, has-code-tested f h)
+
+-- ---- what a format comes to
+
+module _ (f : Format) (l : Laid) (e : l ≡ laid f) where
+  -- its number is the refusal's
+  pub laid-number : l .number ≡ formatRefusal f
+  unfolding laid
+  laid-number = ap (λ (y : Laid). y .number) e ∙ go (eqb (formatRefusal f) 0) refl
+    where
+      go : (b : Bool) → eqb (formatRefusal f) 0 ≡ b → cond b (ready (layout f)) (refused (formatRefusal f)) .number ≡ formatRefusal f
+      go true t = sym (eqb-true (formatRefusal f) 0 t)
+      go false t = refl
+
+  -- and where that is 0, it has the format's layout
+  pub laid-layout : l .number ≡ 0 → l .layout ≡ layout f
+  unfolding laid
+  laid-layout none =
+      ap (λ (y : Laid). y .layout) e
+      ∙ ap (λ (b : Bool). cond b (ready (layout f)) (refused (formatRefusal f)) .layout) (eq-eqb (formatRefusal f) 0 (sym laid-number ∙ none))
