@@ -13,7 +13,7 @@ pow-below : (i j : ℕ) → 2 ^ i < 2 ^ j → i < j
 pow-below i j h = lt-of-not-le (λ (g : j ≤ i). not-le-of-lt h (pow-mono g))
 
 -- a number that reaches 2^j has more than j digits
-size-above : (n j : ℕ) → 2 ^ j ≤ n → j < size n
+pub size-above : (n j : ℕ) → 2 ^ j ≤ n → j < size n
 size-above n j h = pow-below j (size n) (lt-of-le-of-lt h (size-lt n))
 
 -- from 2^k up to 2^(k + 1) a number has k + 1 digits

@@ -1,7 +1,7 @@
 -- A format that has a code: how its width and its exponent field follow from emax. Assumes nothing.
 use mathlib.Core.Bool.{true}
-use mathlib.Core.Path.{_≡_, refl, sym, ap, _∙_, subst}
-use Prim.Native.Nat.{ℕ, suc, _+_, _-_, _*_, _^_, _≤_, _<_}
+use mathlib.Core.Path.{_≡_, sym, ap, _∙_}
+use Prim.Native.Nat.{ℕ, suc, _+_, _-_, _*_, _^_, _≤_}
 use native.Mathlib.Nat.{pow-succ'}
 use native.Mathlib.Omega.{arith}
 use lib.Ieee.{size}
@@ -43,9 +43,12 @@ module _ (f : Format) (h : HasCode f) where
   exponent-bits-some = omega (arith, exponent-bits)
 
 -- a format in range has at most eleven exponent bits,
-pub exponent-bits-most : (f : Format) → InRange f → be f ≤ 11
+pub exponent-bits-few : (f : Format) → f .emax ≤ 1023 → be f ≤ 11
 unfolding be
-exponent-bits-most f r = size-le (f .emax + 1) 11 (omega arith)
+exponent-bits-few f most = size-le (f .emax + 1) 11 (omega arith)
+
+pub exponent-bits-most : (f : Format) → InRange f → be f ≤ 11
+exponent-bits-most f r = exponent-bits-few f (r .emax-most)
 
 -- so that its code fits a word
 pub width-fits : (f : Format) → InRange f → width f ≤ 64

@@ -1,4 +1,5 @@
 -- The laws on fields and layouts, a subject a file.
 pub mod Fields
+pub mod Layouts
 pub mod Refusals
-
+pub mod Unique

@@ -1,11 +1,11 @@
 -- The refusals that come before any code or pattern is looked at, as the code comes to them, and what a format that is not refused
 -- may lean on. Assumes nothing.
-use mathlib.Core.Bool.{Bool, true, false, cond, not, _&&_, false≢true}
+use mathlib.Core.Bool.{Bool, true, false, cond, not, _&&_}
 use mathlib.Core.Path.{_≡_, refl, sym, ap, _∙_}
 use Prim.Native.Nat.{ℕ}
 use native.Mathlib.Omega.{arith}
 use lib.Dec.{eqb}
-use borrow.Author.Tests.{eq-eqb, eqb-true}
+use borrow.Author.Tests.{eq-eqb, eqb-true, not-false}
 use Rattle.laws.proofs.Tests.{and-left, and-right}
 use Rattle.grid.specs.declared.Format.{Format}
 use Rattle.grid.specs.Formats.{precisionFits, exponentFits, inRange, InRange}
@@ -29,15 +29,9 @@ module _ (f : Format) (p : Bool) (p-tested : p ≡ precisionFits (f .p)) where
     refuses-exponent x-fails = simp (← p-tested, p-fits, ← x-tested, x-fails)
 
     module _ (x-fits : not x ≡ false) where
-      -- only a format in range is asked for its code
-      pub asked-in-range : inRange f ≡ true
-      unfolding inRange
-      asked-in-range = go p x p-fits x-fits p-tested x-tested
-        where
-          go : (p x : Bool) → not p ≡ false → not x ≡ false → p ≡ precisionFits (f .p) → x ≡ exponentFits (f .emax) → inRange f ≡ true
-          go true true g h a b = simp (← a, ← b)
-          go true false g h a b = absurd (false≢true (sym h))
-          go false x g h a b = absurd (false≢true (sym g))
+      -- only an emax in range is asked for its code
+      pub asked-exponent-fits : exponentFits (f .emax) ≡ true
+      asked-exponent-fits = sym x-tested ∙ not-false x x-fits
 
       module _ (c : Bool) (c-tested : c ≡ hasCode f) where
         pub accepts-code : c ≡ true → 0 ≡ formatRefusal f
@@ -69,9 +63,16 @@ accepted-tested f none = go (precisionFits (f .p)) (exponentFits (f .emax)) (has
     go true false c h = absurd (omega arith)
     go false x c h = absurd (omega arith)
 
+pub accepted-exponent-fits : (f : Format) → formatRefusal f ≡ 0 → exponentFits (f .emax) ≡ true
+unfolding inRange
+accepted-exponent-fits f none = and-right (precisionFits (f .p)) (exponentFits (f .emax)) (accepted-in-range f none)
+
+pub accepted-inside : (f : Format) → formatRefusal f ≡ 0 → InRange f
+accepted-inside f none = in-range-bounds f (accepted-in-range f none)
+
 -- is in range and has a code
 pub accepted-has-code : (f : Format) → formatRefusal f ≡ 0 → HasCode f
-accepted-has-code f none = tested-has-code f (in-range-bounds f (accepted-in-range f none)) (accepted-tested f none)
+accepted-has-code f none = tested-has-code f (accepted-inside f none) (accepted-tested f none)
 
 -- and every such format is accepted
 pub has-code-accepted : (f : Format) → HasCode f → formatRefusal f ≡ 0

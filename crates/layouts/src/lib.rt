@@ -1,9 +1,9 @@
 // The bits of a format's own code: which formats have one, and the numbers by which patterns are
 // packed and codes unpacked, worked out once for a format. The contracts cite the definitions in
 // specs/; start with specs/Lib.antt. Every callable function answers for all inputs.
-mod layouts;
+mod derived;
 
-pub use layouts::lay_out;
+pub use derived::lay_out;
 
 // What depends only on the format. `normal` and `top` are binary64 patterns, `first`, `infinity` and
 // `nan` codes without a sign. Any numbers may stand here; `lay_out` makes those of a format.

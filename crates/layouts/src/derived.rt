@@ -1,7 +1,8 @@
 // A format's layout, and the refusals that come before any code or pattern is looked at.
 ghost use mathlib.Core.Bool.{true};
 ghost use mathlib.Core.Path.{_≡_};
-ghost use Rattle.grid.specs.Formats.{inRange};
+ghost use Prim.Native.Nat.{_+_, _-_, _*_, _^_, _≤_, _<_};
+ghost use Rattle.grid.specs.Formats.{exponentFits};
 ghost use Rattle.layouts.specs.Fields.{be, hasCode};
 ghost use Rattle.layouts.specs.Calls.{formatRefusal};
 ghost use Rattle.layouts.specs.Layouts.{layout, laid};
@@ -17,7 +18,7 @@ use patterns::digits_of;
 
 // How many bits the exponent field has: the digits of emax + 1.
 fn exponent_bits(f: Format) -> u64
-    requires { ⌜ inRange f ≡ true ⌝ }
+    requires { ⌜ exponentFits (f .emax) ≡ true ⌝ }
     ensures { λ y. ⌜ y ≡ be f ⌝ }
 {
     digits_of(f.emax + 1)
@@ -25,7 +26,7 @@ fn exponent_bits(f: Format) -> u64
 
 // Whether emax + 1 is a power of two.
 fn has_code(f: Format) -> bool
-    requires { ⌜ inRange f ≡ true ⌝ }
+    requires { ⌜ exponentFits (f .emax) ≡ true ⌝ }
     ensures { λ y. ⌜ y ≡ hasCode f ⌝ }
 {
     f.emax + 1 == 1 << (exponent_bits(f) - 1)
@@ -48,6 +49,26 @@ fn refusal_of(f: Format) -> u64
     7
 }
 
+// The code of infinity, without its sign: an exponent field of ones only.
+fn infinity_code(bits: u64, p: u64) -> u64
+    requires { ⌜ bits ≤ 11 ⌝ }
+    requires { ⌜ 2 ≤ p ⌝ }
+    requires { ⌜ p ≤ 53 ⌝ }
+    ensures { λ y. ⌜ y ≡ (2 ^ bits - 1) * 2 ^ (p - 1) ⌝ }
+{
+    ((1 << bits) - 1) << (p - 1)
+}
+
+// The code of a NaN, without its sign: the same with the top fraction bit.
+fn nan_code(infinity: u64, p: u64) -> u64
+    requires { ⌜ infinity < 2 ^ 63 ⌝ }
+    requires { ⌜ 2 ≤ p ⌝ }
+    requires { ⌜ p ≤ 53 ⌝ }
+    ensures { λ y. ⌜ y ≡ infinity + 2 ^ (p - 2) ⌝ }
+{
+    infinity + (1 << (p - 2))
+}
+
 // The layout of a format that has a code.
 fn layout_of(f: Format) -> Layout
     requires { ⌜ formatRefusal f ≡ 0 ⌝ }
@@ -55,7 +76,7 @@ fn layout_of(f: Format) -> Layout
 {
     let bits = exponent_bits(f);
     let spare = 64 - bits - f.p;
-    let infinity = ((1 << bits) - 1) << (f.p - 1);
+    let infinity = infinity_code(bits, f.p);
     Layout {
         sub: f.sub,
         spare,
@@ -66,7 +87,7 @@ fn layout_of(f: Format) -> Layout
         top: top_pattern(f),
         first: 1 << (f.p - 1),
         infinity,
-        nan: infinity + (1 << (f.p - 2)),
+        nan: nan_code(infinity, f.p),
     }
 }
 

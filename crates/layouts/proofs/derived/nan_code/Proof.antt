@@ -1,0 +1,15 @@
+-- `layouts::derived::nan_code` meets its contract. Assumes nothing.
+use lib.Dec.{lit<}
+use borrow.Author.Needs.{needs}
+use Rattle.layouts.proofs.Layouts.{nan-code-is, nan-code-fits}
+use Rattle.layouts.proofs.derived.nan_code.Statement.{statement}
+use Rattle.layouts.proofs.derived.nan_code.Tie as tie
+
+add-result : tie.Need-add-result
+add-result c = search nan-code-fits
+
+returns : tie.Need-returns
+returns c = search (nan-code-is, lit<)
+
+pub nan-code-spec : {M : Type 1} → statement M
+nan-code-spec = tie.close (tie.spec (λ c. search needs) (λ c. search needs) add-result returns)
