@@ -1,1 +1,6 @@
 -- The laws, a subject a file.
+pub mod ByLayout
+pub mod Packings
+pub mod Unpackings
+pub mod WholeCalls
+pub mod Unique

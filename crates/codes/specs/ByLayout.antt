@@ -17,7 +17,7 @@ use Rattle.codes.specs.Calls.{asCode, noCode, asPattern, noPattern}
 -- ---- packing
 
 -- below the normal range a number of the format has no digit below this place of its significand
-unfoldable pub depth : ℕ → ℕ → ℕ
+abbrev pub depth : ℕ → ℕ → ℕ
 depth bottom m = bottom - ex m
 
 -- whether a finite magnitude is one of the format's

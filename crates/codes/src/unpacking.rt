@@ -17,6 +17,11 @@ const INFINITY: u64 = 0x7FF0_0000_0000_0000;
 // The magnitude pattern that every NaN is unpacked to.
 const QUIET_NAN: u64 = 0x7FF8_0000_0000_0000;
 
+// The refusals of a code: more than k bits, and no number.
+const TOO_LARGE: u64 = 9;
+
+const NO_NUMBER: u64 = 10;
+
 // How far a number of so many digits may move up, to stand where a normal number has its first digit.
 fn room_above(digits: u64) -> u64
     ensures { λ y. ⌜ y ≡ 53 - digits ⌝ }
@@ -73,17 +78,18 @@ fn is_no_number(l: Layout, n: u64) -> bool
 pub fn unpack_by(l: Layout, c: u64) -> Unpacked
     ensures { λ y. ⌜ y ≡ unpackedBy l c ⌝ }
 {
+    let w = moved_up(c, l.spare);
+    let n = high_part(magnitude_of(w), l.spare);
+    let nothing = is_no_number(l, n);
     if l.last < c {
         return Unpacked {
-            number: 9,
+            number: TOO_LARGE,
             pattern: 0,
         };
     }
-    let w = moved_up(c, l.spare);
-    let n = high_part(magnitude_of(w), l.spare);
-    if is_no_number(l, n) {
+    if nothing {
         return Unpacked {
-            number: 10,
+            number: NO_NUMBER,
             pattern: 0,
         };
     }

@@ -2,4 +2,5 @@
 pub mod Fields
 pub mod Layouts
 pub mod Refusals
+pub mod Splits
 pub mod Unique

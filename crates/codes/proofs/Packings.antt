@@ -1,0 +1,77 @@
+-- A pattern packed by a layout, as the code comes to it: each definition of specs/ByLayout.antt on packing in the form in which
+-- calls and branches leave its parts. Assumes nothing.
+use mathlib.Core.Bool.{Bool, true, false}
+use mathlib.Core.Path.{_≡_}
+use Prim.Native.Nat.{ℕ, _+_, _-_, _%_, _^_, _≤_, _<_}
+use lib.Dec.{ltb, eqb}
+use borrow.Author.Tests.{lt-ltb, le-ltb}
+use Rattle.patterns.specs.declared.Kind.{Kind}
+use Rattle.patterns.specs.declared.Kind.the-variants.{Zero, Finite, Infinity, NaN}
+use Rattle.patterns.specs.Patterns.{mag, withSign, kindOf, sig}
+use Rattle.patterns.specs.Places.{high, low, movedUp}
+use Rattle.layouts.specs.declared.Layout.{Layout}
+use Rattle.codes.specs.declared.Packed.{Packed}
+use Rattle.codes.specs.Calls.{asCode, noCode}
+use Rattle.codes.specs.ByLayout.{depth, heldBy, finiteFields, codeBy, finiteBy, packedAs, packedBy}
+
+-- ---- a finite magnitude
+
+module _ (l : Layout) (m : ℕ) where
+  -- below the normal range
+  module _ (small : m < l .normal) (s : ℕ) (whole : s ≡ sig m) (d : ℕ) (deep : d ≡ depth (l .bottom) m) where
+    pub held-small : (r : ℕ) → r ≡ low s d → eqb r 0 ≡ heldBy l m
+    unfolding heldBy
+    held-small r cut = simp (lt-ltb m (l .normal) small, cut, whole, deep)
+
+    pub fields-small : (y : ℕ) → y ≡ high s d → y ≡ finiteFields l m
+    unfolding finiteFields
+    fields-small y cut = simp (lt-ltb m (l .normal) small, cut, whole, deep)
+
+  -- and from there on
+  module _ (reached : l .normal ≤ m) where
+    pub held-normal : m < l .top → (r : ℕ) → r ≡ low m (l .cut) → eqb r 0 ≡ heldBy l m
+    unfolding heldBy
+    held-normal below r cut = simp (le-ltb m (l .normal) reached, lt-ltb m (l .top) below, cut)
+
+    pub held-past : l .top ≤ m → ltb m (l .top) ≡ heldBy l m
+    unfolding heldBy
+    held-past past = simp (le-ltb m (l .normal) reached, le-ltb m (l .top) past)
+
+    pub fields-normal : (h : ℕ) → h ≡ high (m - l .normal) (l .cut) → (y : ℕ) → y ≡ (h + l .first) % 2 ^ 64 → y ≡ finiteFields l m
+    unfolding finiteFields
+    fields-normal h cut y sum = simp (le-ltb m (l .normal) reached, sum, cut)
+
+-- ---- the code
+
+module _ (l : Layout) (x : ℕ) where
+  -- fields and a sign put together
+  pub code-is : (n w : ℕ) → w ≡ movedUp n (l .spare) → (z : ℕ) → z ≡ withSign x w → (c : ℕ) → c ≡ high z (l .spare) → c ≡ codeBy l x n
+  code-is n w moved z put c cut = simp (cut, put, moved)
+
+  -- of a finite pattern
+  module _ (m : ℕ) (unsigned : m ≡ mag x) (b : Bool) (tested : b ≡ heldBy l m) where
+    pub finite-packed : b ≡ true → (n : ℕ) → n ≡ finiteFields l m → (c : ℕ) → c ≡ codeBy l x n → asCode c ≡ finiteBy l x
+    unfolding finiteBy
+    finite-packed held n fields c is = simp (← unsigned, ← tested, held, is, fields)
+
+    pub finite-refused : b ≡ false → noCode 8 ≡ finiteBy l x
+    unfolding finiteBy
+    finite-refused lacks = simp (← unsigned, ← tested, lacks)
+
+  -- by what the pattern is
+  module _ (k : Kind) (e : k ≡ kindOf x) where
+    pub zero-packed : k ≡ Zero → (c : ℕ) → c ≡ codeBy l x 0 → asCode c ≡ packedBy l x
+    unfolding packedBy packedAs
+    zero-packed is c put = simp (← e, is, put)
+
+    pub finite-answered : k ≡ Finite → (y : Packed) → y ≡ finiteBy l x → y ≡ packedBy l x
+    unfolding packedBy packedAs
+    finite-answered is y goes = simp (← e, is, goes)
+
+    pub infinity-packed : k ≡ Infinity → (c : ℕ) → c ≡ codeBy l x (l .infinity) → asCode c ≡ packedBy l x
+    unfolding packedBy packedAs
+    infinity-packed is c put = simp (← e, is, put)
+
+    pub nan-packed : k ≡ NaN → (c : ℕ) → c ≡ codeBy l x (l .nan) → asCode c ≡ packedBy l x
+    unfolding packedBy packedAs
+    nan-packed is c put = simp (← e, is, put)

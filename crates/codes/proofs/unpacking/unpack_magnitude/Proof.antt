@@ -1,0 +1,29 @@
+-- `codes::unpacking::unpack_magnitude` meets its contract. Assumes nothing.
+use borrow.Author.Needs.{needs}
+use Rattle.codes.proofs.Unpackings.{magnitude-small, magnitude-normal, magnitude-infinity, magnitude-nan}
+use Rattle.codes.proofs.unpacking.unpack_magnitude.Statement.{statement}
+use Rattle.codes.proofs.unpacking.unpack_magnitude.Tie as tie
+
+returns : tie.Need-returns
+returns c = search magnitude-small
+
+returns-2 : tie.Need-returns-2
+returns-2 c = search magnitude-normal
+
+returns-3 : tie.Need-returns-3
+returns-3 c = search magnitude-infinity
+
+returns-4 : tie.Need-returns-4
+returns-4 c = search magnitude-nan
+
+pub unpack-magnitude-spec : {M : Type 1} → statement M
+unpack-magnitude-spec =
+    tie.close
+    (tie.spec
+    (λ c κs. search needs)
+    returns
+    (λ c κs. search needs)
+    (λ c κs. search needs)
+    returns-2
+    returns-3
+    returns-4)
