@@ -2,7 +2,7 @@
 use mathlib.Core.Bool.{true}
 use mathlib.Core.Path.{_≡_, refl, sym, ap, _∙_, subst}
 use Prim.Native.Nat.{ℕ, _+_, _-_, _*_, _/_, _%_, _^_, _≤_, _<_}
-use native.Mathlib.Nat.{lt-of-lt-of-le}
+use native.Mathlib.Nat.{le-refl, lt-of-lt-of-le}
 use native.Mathlib.Omega.{arith}
 use lib.Dec.{eqb}
 use mir.Val.{Fits}
@@ -11,7 +11,7 @@ use lib.Pow.{pow-pos, pow-mono, ones-lt, ones-split, shl-lt, shl-exact}
 use Rattle.laws.proofs.Multiples.{multiples-in}
 use borrow.Author.Tests.{ne-eqb}
 use Rattle.laws.proofs.Digits.{size-above}
-use Rattle.laws.proofs.Words.{one-shifted}
+use Rattle.laws.proofs.Words.{one-shifted, shifted-not-above}
 use Rattle.patterns.specs.Patterns.{digitsOf}
 use Rattle.patterns.proofs.Values.{digits-subnormal}
 use Rattle.grid.specs.declared.Format.{Format}
@@ -69,8 +69,8 @@ one-shifted-some w d h = subst (λ (n : ℕ). 1 ≤ n) (sym (one-shifted w d h))
 pub nan-code-is : (w infinity p : ℕ) → p ≤ 53 → 53 < w → infinity + 1 * 2 ^ (p - 2) % 2 ^ w ≡ infinity + 2 ^ (p - 2)
 nan-code-is w infinity p most wide = ap (λ (n : ℕ). infinity + n) (one-shifted w (p - 2) (omega arith))
 
-pub nan-code-fits : (infinity p : ℕ) → infinity < 2 ^ 63 → p ≤ 53 → Fits w64 (infinity + 1 * 2 ^ (p - 2) % 2 ^ 64)
-nan-code-fits infinity p below most = omega (arith, one-shifted 64 (p - 2) (omega arith), pow-mono {i = p - 2} {j = 51} (omega arith))
+pub nan-code-fits : (infinity c d : ℕ) → infinity < 2 ^ 63 → c ≤ 1 → d ≤ 51 → Fits w64 (infinity + c * 2 ^ d % 2 ^ 64)
+nan-code-fits infinity c d below one few = omega (arith, shifted-not-above 64 c d 0 51 (2 ^ 51) one few (le-refl (2 ^ 51)))
 
 module _ (f : Format) (none : formatRefusal f ≡ 0) (bits : ℕ) (e : bits ≡ be f) where
   range : InRange f

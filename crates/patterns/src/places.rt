@@ -27,8 +27,8 @@ pub fn low_part(n: u64, d: u64) -> u64
 pub fn moved_up(n: u64, d: u64) -> u64
     ensures { λ r. ⌜ r ≡ movedUp n d ⌝ }
 {
-    if d < 64 {
-        return n << d;
+    if 63 < d {
+        return 0;
     }
-    0
+    n << d
 }

@@ -8,11 +8,11 @@ use Rattle.patterns.proofs.places.moved_up.Tie as tie
 
 returns : tie.Need-returns
 unfolding movedUp
-returns c = refl
+returns c = sym (moved-past 64 (c .before .args .n) (c .before .args .d) (c .if1 .taken))
 
 returns-2 : tie.Need-returns-2
 unfolding movedUp
-returns-2 c = sym (moved-past 64 (c .before .args .n) (c .before .args .d) (c .if1 .left))
+returns-2 c = refl
 
 pub moved-up-spec : {M : Type 1} → statement M
-moved-up-spec = tie.close (tie.spec (λ c. search needs) returns returns-2)
+moved-up-spec = tie.close (tie.spec returns (λ c. search needs) returns-2)
