@@ -1,6 +1,18 @@
--- The laws, a subject a file.
-pub mod ByLayout
+-- The laws on packing and unpacking, a subject a file.
+pub mod Answers
+pub mod Cases
+pub mod FieldPatterns
+pub mod Lifts
+pub mod Magnitudes
+pub mod Numbers
+pub mod Orders
+pub mod PackedByLayout
 pub mod Packings
+pub mod Parts
+pub mod RoundTrips
+pub mod Unique
+pub mod UnpackedByLayout
 pub mod Unpackings
 pub mod WholeCalls
-pub mod Unique
+pub mod Widest
+pub mod Worth

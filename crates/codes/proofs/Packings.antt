@@ -14,7 +14,7 @@ use Rattle.codes.specs.declared.Packed.{Packed}
 use Rattle.codes.specs.Calls.{asCode, noCode}
 use Rattle.codes.specs.ByLayout.{depth, heldBy, finiteFields, codeBy, finiteBy, packedAs, packedBy}
 
--- ---- a finite magnitude
+-- ---- a finite magnitude: whether it is held, and its fields
 
 module _ (l : Layout) (m : ℕ) where
   -- below the normal range
@@ -41,14 +41,15 @@ module _ (l : Layout) (m : ℕ) where
     unfolding finiteFields
     fields-normal h cut y sum = simp (le-ltb m (l .normal) reached, sum, cut)
 
--- ---- the code
+-- ---- the code of a pattern
 
 module _ (l : Layout) (x : ℕ) where
   -- fields and a sign put together
-  pub code-is : (n w : ℕ) → w ≡ movedUp n (l .spare) → (z : ℕ) → z ≡ withSign x w → (c : ℕ) → c ≡ high z (l .spare) → c ≡ codeBy l x n
+  pub code-is : (n w : ℕ) → w ≡ movedUp n (l .spare) → (z : ℕ) → z ≡ withSign x w → (c : ℕ) → c ≡ high z (l .spare)
+      → c ≡ codeBy l x n
   code-is n w moved z put c cut = simp (cut, put, moved)
 
-  -- of a finite pattern
+  -- a finite pattern's, or refusal 8
   module _ (m : ℕ) (unsigned : m ≡ mag x) (b : Bool) (tested : b ≡ heldBy l m) where
     pub finite-packed : b ≡ true → (n : ℕ) → n ≡ finiteFields l m → (c : ℕ) → c ≡ codeBy l x n → asCode c ≡ finiteBy l x
     unfolding finiteBy

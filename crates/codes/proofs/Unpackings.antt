@@ -12,7 +12,7 @@ use Rattle.codes.specs.Unpacking.{quietNaN}
 use Rattle.codes.specs.Calls.{asPattern, noPattern}
 use Rattle.codes.specs.ByLayout.{smallPattern, magnitudeBy, noNumberBy, lifted, unpackedBy}
 
--- ---- below the normal range
+-- ---- below the normal range: 0, a fraction alone, or a first digit where a normal number has it
 
 module _ (bottom n : ℕ) where
   pub small-zero : n ≡ 0 → 0 ≡ smallPattern bottom n
@@ -24,33 +24,35 @@ module _ (bottom n : ℕ) where
     unfolding smallPattern
     small-short low y moved = simp (ne-eqb n 0 some, ← counted, ← left, lt-ltb bottom room low, moved)
 
-    pub small-full : room ≤ bottom → (e : ℕ) → e ≡ movedUp (bottom - room) 52 → (s : ℕ) → s ≡ movedUp n room → (y : ℕ) → y ≡ (e + s) % 2 ^ 64
-        → y ≡ smallPattern bottom n
+    pub small-full : room ≤ bottom → (e : ℕ) → e ≡ movedUp (bottom - room) 52 → (s : ℕ) → s ≡ movedUp n room
+        → (y : ℕ) → y ≡ (e + s) % 2 ^ 64 → y ≡ smallPattern bottom n
     unfolding smallPattern
-    small-full high e exponent s moved y sum = simp (ne-eqb n 0 some, ← counted, ← left, le-ltb bottom room high, sum, exponent, moved)
+    small-full high e rest s moved y sum =
+        simp (ne-eqb n 0 some, ← counted, ← left, le-ltb bottom room high, sum, rest, moved)
 
--- ---- the magnitude pattern
+-- ---- the magnitude pattern: below the normal range, in it, infinity, NaN
 
 module _ (l : Layout) (n : ℕ) where
-  pub magnitude-small : n < l .first → (y : ℕ) → y ≡ smallPattern (l .bottom) n → y ≡ magnitudeBy l n
+  pub unpacks-small : n < l .first → (y : ℕ) → y ≡ smallPattern (l .bottom) n → y ≡ magnitudeBy l n
   unfolding magnitudeBy
-  magnitude-small small y is = simp (lt-ltb n (l .first) small, is)
+  unpacks-small small y is = simp (lt-ltb n (l .first) small, is)
 
   module _ (normal : l .first ≤ n) where
-    pub magnitude-normal : n < l .infinity → (s : ℕ) → s ≡ movedUp (n - l .first) (l .cut) → (y : ℕ) → y ≡ (s + l .normal) % 2 ^ 64 → y ≡ magnitudeBy l n
+    pub unpacks-normal : n < l .infinity → (s : ℕ) → s ≡ movedUp (n - l .first) (l .cut) → (y : ℕ) → y ≡ (s + l .normal) % 2 ^ 64
+        → y ≡ magnitudeBy l n
     unfolding magnitudeBy
-    magnitude-normal finite s moved y sum = simp (le-ltb n (l .first) normal, lt-ltb n (l .infinity) finite, sum, moved)
+    unpacks-normal finite s moved y sum = simp (le-ltb n (l .first) normal, lt-ltb n (l .infinity) finite, sum, moved)
 
     module _ (past : l .infinity ≤ n) where
-      pub magnitude-infinity : n ≡ l .infinity → infinity ≡ magnitudeBy l n
+      pub unpacks-infinity : n ≡ l .infinity → infinity ≡ magnitudeBy l n
       unfolding magnitudeBy
-      magnitude-infinity at = simp (le-ltb n (l .first) normal, le-ltb n (l .infinity) past, eq-eqb n (l .infinity) at)
+      unpacks-infinity at = simp (le-ltb n (l .first) normal, le-ltb n (l .infinity) past, eq-eqb n (l .infinity) at)
 
-      pub magnitude-nan : (n ≡ l .infinity → ⊥) → quietNaN ≡ magnitudeBy l n
+      pub unpacks-nan : (n ≡ l .infinity → ⊥) → quietNaN ≡ magnitudeBy l n
       unfolding magnitudeBy
-      magnitude-nan above = simp (le-ltb n (l .first) normal, le-ltb n (l .infinity) past, ne-eqb n (l .infinity) above)
+      unpacks-nan above = simp (le-ltb n (l .first) normal, le-ltb n (l .infinity) past, ne-eqb n (l .infinity) above)
 
-  -- ---- whether the fields are a number
+  -- ---- whether the fields are no number: asked only without subnormals, and then only above 0
 
   pub number-kept : l .sub ≡ true → false ≡ noNumberBy l n
   unfolding noNumberBy
@@ -65,19 +67,19 @@ module _ (l : Layout) (n : ℕ) where
     unfolding noNumberBy
     number-zero none = simp (lacks, eq-eqb n 0 none)
 
--- ---- the whole code
+-- ---- the whole code: refused as 9 or 10, or unpacked
 
 module _ (l : Layout) (c : ℕ) where
-  pub unpacked-wide : l .last < c → noPattern 9 ≡ unpackedBy l c
+  pub answers-too-large : l .last < c → noPattern 9 ≡ unpackedBy l c
   unfolding unpackedBy
-  unpacked-wide wide = simp (lt-ltb (l .last) c wide)
+  answers-too-large wide = simp (lt-ltb (l .last) c wide)
 
-  module _ (fits : c ≤ l .last) (w : ℕ) (moved : w ≡ lifted l c) (m : ℕ) (unsigned : m ≡ mag w) (n : ℕ) (cut : n ≡ high m (l .spare))
-      (b : Bool) (tested : b ≡ noNumberBy l n) where
-    pub unpacked-no-number : b ≡ true → noPattern 10 ≡ unpackedBy l c
+  module _ (fits : c ≤ l .last) (w : ℕ) (moved : w ≡ lifted l c) (m : ℕ) (unsigned : m ≡ mag w)
+      (n : ℕ) (cut : n ≡ high m (l .spare)) (b : Bool) (tested : b ≡ noNumberBy l n) where
+    pub answers-no-number : b ≡ true → noPattern 10 ≡ unpackedBy l c
     unfolding unpackedBy
-    unpacked-no-number none = simp (le-ltb (l .last) c fits, ← moved, ← unsigned, ← cut, ← tested, none)
+    answers-no-number none = simp (le-ltb (l .last) c fits, ← moved, ← unsigned, ← cut, ← tested, none)
 
-    pub unpacked-number : b ≡ false → (y : ℕ) → y ≡ magnitudeBy l n → (x : ℕ) → x ≡ withSign w y → asPattern x ≡ unpackedBy l c
+    pub answers-pattern : b ≡ false → (y : ℕ) → y ≡ magnitudeBy l n → (x : ℕ) → x ≡ withSign w y → asPattern x ≡ unpackedBy l c
     unfolding unpackedBy
-    unpacked-number some y is x put = simp (le-ltb (l .last) c fits, ← moved, ← unsigned, ← cut, ← tested, some, put, is)
+    answers-pattern some y is x put = simp (le-ltb (l .last) c fits, ← moved, ← unsigned, ← cut, ← tested, some, put, is)

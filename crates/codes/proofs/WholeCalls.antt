@@ -14,7 +14,8 @@ use Rattle.codes.specs.declared.Packed.{Packed}
 use Rattle.codes.specs.declared.Unpacked.{Unpacked}
 use Rattle.codes.specs.Calls.{noCode, noPattern, packed, unpacked, packOne, unpackOne}
 use Rattle.codes.specs.ByLayout.{packedBy, unpackedBy}
-use Rattle.codes.proofs.ByLayout.{packed-by-layout, unpacked-by-layout}
+use Rattle.codes.proofs.PackedByLayout.{packed-by-layout}
+use Rattle.codes.proofs.UnpackedByLayout.{unpacked-by-layout}
 
 module _ (f : Format) (l : Laid) (e : l ≡ laid f) where
   -- where the format is accepted, the answer is the pattern's or the code's
@@ -22,20 +23,20 @@ module _ (f : Format) (l : Laid) (e : l ≡ laid f) where
     accepted : formatRefusal f ≡ 0
     accepted = sym (laid-number f l e) ∙ none
 
-    pub pack-answered : (x : ℕ) → x < 2 ^ 64 → (y : Packed) → y ≡ packedBy (l .layout) x → y ≡ packOne f x
+    pub pack-answered : (x : ℕ) (y : Packed) → y ≡ packedBy (l .layout) x → y ≡ packOne f x
     unfolding packOne
-    pack-answered x fits y goes =
+    pack-answered x y goes =
         goes
         ∙ ap (λ (k : Layout). packedBy k x) (laid-layout f l e none)
-        ∙ packed-by-layout f (accepted-has-code f accepted) x fits
+        ∙ packed-by-layout f (accepted-has-code f accepted) x
         ∙ sym (ap (λ (b : Bool). cond b (packed f x) (noCode (formatRefusal f))) (eq-eqb (formatRefusal f) 0 accepted))
 
-    pub unpack-answered : (c : ℕ) → c < 2 ^ 64 → (y : Unpacked) → y ≡ unpackedBy (l .layout) c → y ≡ unpackOne f c
+    pub unpack-answered : (c : ℕ) (y : Unpacked) → y ≡ unpackedBy (l .layout) c → y ≡ unpackOne f c
     unfolding unpackOne
-    unpack-answered c fits y goes =
+    unpack-answered c y goes =
         goes
         ∙ ap (λ (k : Layout). unpackedBy k c) (laid-layout f l e none)
-        ∙ unpacked-by-layout f (accepted-has-code f accepted) c fits
+        ∙ unpacked-by-layout f (accepted-has-code f accepted) c
         ∙ sym (ap (λ (b : Bool). cond b (unpacked f c) (noPattern (formatRefusal f))) (eq-eqb (formatRefusal f) 0 accepted))
 
   -- where it is not, the answer has the refusal's number

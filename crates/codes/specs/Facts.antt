@@ -20,7 +20,7 @@ PackUnpack = (f : Format) (x c : ℕ) → x < 2 ^ 64 → packOne f x ≡ asCode 
 
 -- a NaN that is packed and unpacked keeps its sign and nothing else
 abbrev pub NaNPackUnpack : Type 0
-NaNPackUnpack = (f : Format) (x c : ℕ) → x < 2 ^ 64 → packOne f x ≡ asCode c → kindOf x ≡ NaN → unpackOne f c ≡ asPattern (withSign x quietNaN)
+NaNPackUnpack = (f : Format) (x c : ℕ) → packOne f x ≡ asCode c → kindOf x ≡ NaN → unpackOne f c ≡ asPattern (withSign x quietNaN)
 
 -- the pattern is no NaN, and no code of k bits unpacks to it
 pub record NoCode (f : Format) (x : ℕ) : Type 0 where
@@ -33,7 +33,7 @@ RefusesWithoutCode = (f : Format) (x : ℕ) → x < 2 ^ 64 → formatRefusal f �
 
 -- and only there
 abbrev pub RefusesOnlyWithoutCode : Type 0
-RefusesOnlyWithoutCode = (f : Format) (x : ℕ) → x < 2 ^ 64 → packOne f x ≡ noCode 8 → NoCode f x
+RefusesOnlyWithoutCode = (f : Format) (x : ℕ) → packOne f x ≡ noCode 8 → NoCode f x
 
 -- two codes that unpack to one pattern, which is no NaN, are the same code
 abbrev pub CodesApart : Type 0

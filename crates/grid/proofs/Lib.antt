@@ -1,6 +1,7 @@
 -- The laws about formats and their numbers, a subject a file.
 pub mod Ranges
 pub mod Steps
+pub mod Places
 pub mod Candidates
 pub mod Neighbours
 pub mod Ends

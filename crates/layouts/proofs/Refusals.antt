@@ -2,7 +2,7 @@
 -- may lean on. Assumes nothing.
 use mathlib.Core.Bool.{Bool, true, false, cond, not, _&&_}
 use mathlib.Core.Path.{_≡_, refl, sym, ap, _∙_}
-use Prim.Native.Nat.{ℕ}
+use Prim.Native.Nat.{ℕ, _≤_}
 use native.Mathlib.Omega.{arith}
 use lib.Dec.{eqb}
 use borrow.Author.Tests.{eq-eqb, eqb-true, not-false}
@@ -41,6 +41,17 @@ module _ (f : Format) (p : Bool) (p-tested : p ≡ precisionFits (f .p)) where
         pub refuses-code : c ≡ false → 7 ≡ formatRefusal f
         unfolding formatRefusal
         refuses-code lacks = simp (← p-tested, p-fits, ← x-tested, x-fits, ← c-tested, lacks)
+
+-- 7 is the last of them
+pub format-refusal-most : (f : Format) → formatRefusal f ≤ 7
+unfolding formatRefusal
+format-refusal-most f = go (not (precisionFits (f .p))) (not (exponentFits (f .emax))) (not (hasCode f))
+  where
+    go : (p x c : Bool) → cond p 1 (cond x 2 (cond c 7 0)) ≤ 7
+    go true x c = omega arith
+    go false true c = omega arith
+    go false false true = omega arith
+    go false false false = omega arith
 
 -- ---- a format that is not refused
 

@@ -50,7 +50,8 @@ module _ (f : Format) (h : HasCode f) where
     positive-code below = negative-at 0 (div-eq-of-lt below)
 
     pub negative-code : 2 ^ (width f - 1) ≤ c → c < 2 ^ width f → negative f c ≡ true
-    negative-code reached fits = negative-at 1 (multiples-in d 1 c (omega (arith, one-mul d)) (omega (arith, one-mul d, width-with-sign)))
+    negative-code reached fits =
+        negative-at 1 (multiples-in d 1 c (omega (arith, one-mul d)) (omega (arith, one-mul d, width-with-sign)))
       where
         d : ℕ
         d = 2 ^ (width f - 1)
@@ -64,7 +65,8 @@ module _ (f : Format) (h : HasCode f) where
 
     -- ---- the code is put together of them
 
-    pub parts-are-code : c < 2 ^ width f → cond (negative f c) (2 ^ (width f - 1) + c % 2 ^ (width f - 1)) (c % 2 ^ (width f - 1)) ≡ c
+    pub parts-are-code : c < 2 ^ width f
+        → cond (negative f c) (2 ^ (width f - 1) + c % 2 ^ (width f - 1)) (c % 2 ^ (width f - 1)) ≡ c
     parts-are-code fits = go (below-or-not c (2 ^ (width f - 1)))
       where
         d : ℕ
@@ -74,7 +76,8 @@ module _ (f : Format) (h : HasCode f) where
         go (inl below) = ap (λ (b : Bool). cond b (d + c % d) (c % d)) (positive-code below) ∙ mod-eq-of-lt below
         go (inr reached) =
             ap (λ (b : Bool). cond b (d + c % d) (c % d)) (negative-code reached fits)
-            ∙ ap (λ (x : ℕ). d + x) (ap (λ (x : ℕ). x % d) rest ∙ add-mod-left d (c - d) ∙ mod-eq-of-lt (omega (arith, width-with-sign)))
+            ∙ ap (λ (x : ℕ). d + x)
+            (ap (λ (x : ℕ). x % d) rest ∙ add-mod-left d (c - d) ∙ mod-eq-of-lt (omega (arith, width-with-sign)))
             ∙ sym rest
           where
             rest : c ≡ d + (c - d)

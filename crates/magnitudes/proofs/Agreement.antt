@@ -14,12 +14,13 @@ use Rattle.laws.proofs.Multiples.{clears-carry}
 use Rattle.laws.proofs.Orders.{below-or-not}
 use Rattle.patterns.specs.Patterns.{infinity, val, ex, sig, digitsOf, pat, Short}
 use Rattle.patterns.specs.Places.{high}
-use Rattle.patterns.proofs.Values.{val-small, val-pat, pat-val, pattern-below, DigitCases, digit-cases}
+use Rattle.patterns.proofs.Values.{val-small, val-pat, pat-val, pattern-below}
 use Rattle.grid.specs.declared.Format.{Format}
 use Rattle.grid.specs.Formats.{InRange, emin, zetaExp, zeta, stepExp, xmax, T}
 use Rattle.grid.proofs.Candidates.{candidate-short, top-short}
 use Rattle.grid.proofs.Ends.{zeta-is-hi}
-use Rattle.grid.proofs.Steps.{step-normal, step-small, emin-normal, zeta-near}
+use Rattle.grid.proofs.Steps.{step-small}
+use Rattle.grid.proofs.Places.{normal-place, small-place}
 use Rattle.magnitudes.specs.declared.Mode.{Mode}
 use Rattle.magnitudes.specs.Modes.{ModeFits, takesHi, overflows}
 use Rattle.magnitudes.specs.Destinations.{taken, written, goesTo}
@@ -40,22 +41,13 @@ module _ (f : Format) (r : InRange f) where
   place-large : (m : ℕ) → emin f < digitsOf m → (placeOf m ≡ 53 - f .p) × (placeOf m + ex m ≡ stepExp f (digitsOf m))
   place-large m h =
       let cut : placeOf m ≡ 53 - f .p = sym (place-normal (53 - f .p) (emin f) (zetaExp f) m (digitsOf m) refl h) in
-      (cut, go cut (step-normal f (digitsOf m) h) (emin-normal f r) (digit-cases m))
-    where
-      go : placeOf m ≡ 53 - f .p → stepExp f (digitsOf m) ≡ digitsOf m - f .p → 52 ≤ emin f → DigitCases m → placeOf m + ex m ≡ stepExp f (digitsOf m)
-      go cut own least (inl c) = omega arith
-      go cut own least (inr c) = omega arith
+      (cut, ap (λ (d : ℕ). d + ex m) cut ∙ normal-place f r m h)
 
   -- and below it
   place-small : (m : ℕ) → digitsOf m ≤ emin f → (stepExp f (digitsOf m) ≡ zetaExp f) × (placeOf m + ex m ≡ stepExp f (digitsOf m))
   place-small m h =
       let cut : placeOf m ≡ zetaExp f - ex m = sym (place-below-normal (53 - f .p) (emin f) (zetaExp f) m (digitsOf m) refl h) in
-      let own = step-small f (digitsOf m) h in
-      (own, go cut own (zeta-near f r) (digit-cases m))
-    where
-      go : placeOf m ≡ zetaExp f - ex m → stepExp f (digitsOf m) ≡ zetaExp f → emin f < f .p + zetaExp f → DigitCases m → placeOf m + ex m ≡ stepExp f (digitsOf m)
-      go cut own near (inl c) = omega arith
-      go cut own near (inr c) = omega arith
+      (step-small f (digitsOf m) h, ap (λ (d : ℕ). d + ex m) cut ∙ small-place f r m h)
 
   place-is-step : (m : ℕ) → placeOf m + ex m ≡ stepExp f (digitsOf m)
   place-is-step m = go (below-or-not (emin f) (digitsOf m))

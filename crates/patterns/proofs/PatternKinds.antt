@@ -1,12 +1,13 @@
 -- What a pattern is, by the tests that the code makes of its magnitude, in their order, and what its
--- being finite says of the magnitude. Assumes nothing.
+-- being finite, or no NaN, says of the magnitude. Assumes nothing.
 use mathlib.Core.Bool.{Bool, true, false, false≢true}
 use mathlib.Core.Logic.{_⊎_, inl, inr}
 use mathlib.Core.Path.{_≡_, refl, sym, ap, _∙_, subst}
-use Prim.Native.Nat.{ℕ, _≤_, _<_}
-use native.Mathlib.Nat.{lt-irrefl, lt-of-not-le, eq-or-lt-of-le}
+use Prim.Native.Nat.{ℕ, _≤_, _<_, zero-le}
+use native.Mathlib.Nat.{le-of-lt, lt-irrefl, lt-of-le-of-lt, lt-of-not-le, ne-of-gt, eq-or-lt-of-le}
 use lib.Arith.{le-zero}
 use borrow.Author.Tests.{lt-ltb, le-ltb, eq-eqb, ne-eqb}
+use Rattle.laws.proofs.Orders.{le-of-not-lt}
 use Rattle.patterns.specs.declared.Kind.{Kind}
 use Rattle.patterns.specs.declared.Kind.the-variants.{Zero, Finite, Infinity, NaN}
 use Rattle.patterns.specs.Patterns.{mag, infinity, kindOf}
@@ -69,3 +70,15 @@ finite-or-not x = go (kindOf x)
     go Finite = inl refl
     go Infinity = inr (λ e. false≢true (ap isFinite e))
     go NaN = inr (λ e. false≢true (ap isFinite e))
+
+-- ---- what not being a NaN says of it
+
+module _ (x : ℕ) where
+  -- a magnitude above infinity's is a NaN's,
+  above-nan : infinity < mag x → kindOf x ≡ NaN
+  above-nan over =
+      sym (kind-nan x (mag x) refl (ne-of-gt (lt-of-le-of-lt zero-le over)) (le-of-lt over) (ne-of-gt over))
+
+  -- so that of any other pattern is not
+  pub number-not-above : (kindOf x ≡ NaN → ⊥) → mag x ≤ infinity
+  number-not-above number = le-of-not-lt (λ (over : infinity < mag x). number (above-nan over))

@@ -5,7 +5,7 @@ use Rattle.codes.proofs.calls.pack_one.Statement.{statement}
 use Rattle.codes.proofs.calls.pack_one.Tie as tie
 
 returns : tie.Need-returns
-returns c = search (pack-answered, needs)
+returns c = search pack-answered
 
 returns-2 : tie.Need-returns-2
 returns-2 c = search pack-refused

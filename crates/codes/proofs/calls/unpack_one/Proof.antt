@@ -5,7 +5,7 @@ use Rattle.codes.proofs.calls.unpack_one.Statement.{statement}
 use Rattle.codes.proofs.calls.unpack_one.Tie as tie
 
 returns : tie.Need-returns
-returns c = search (unpack-answered, needs)
+returns c = search unpack-answered
 
 returns-2 : tie.Need-returns-2
 returns-2 c = search unpack-refused
