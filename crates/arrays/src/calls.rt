@@ -1,4 +1,4 @@
-// The calls: decide, then write.
+// An array of patterns rounded: decide, then write.
 ghost use mathlib.Core.Path.{_≡_};
 ghost use Rattle.arrays.specs.Rounding.{report, reported, afterwards};
 use super::Report;
@@ -9,7 +9,7 @@ use grid::Format;
 use rounding::Prepared;
 
 // The report of a call that is about no place: 0, or the number of its refusal.
-fn report_of(number: u64) -> Report
+pub(crate) fn report_of(number: u64) -> Report
     ensures { λ y. ⌜ y ≡ report number ⌝ }
 {
     Report { number, place: 0 }

@@ -43,6 +43,16 @@ pub tab-getD : {A B : Type 0} (h : A → B) (l : List A) (d : A) → tab (length
 tab-getD h [] d = refl
 tab-getD {A} {B} h (x ∷ xs) d = ap {B = List B} (λ ys. h x ∷ ys) (tab-getD h xs d)
 
+-- what is made of each entry stands at the entry's place
+pub getD-map : {A B : Type 0} (h : A → B) (l : List A) (i : ℕ) (d : A) (e : B) → i < length l → getD (map h l) i e ≡ h (getD l i d)
+getD-map {A} {B} h l i d e within =
+    ap {A = List B} (λ m. getD m i e) (sym (tab-getD h l d)) ∙ getD-tab (length l) (λ (k : ℕ). h (getD l k d)) i e within
+
+-- two functions that agree on the entries make the same of them
+pub map-alike : {A B : Type 0} (g h : A → B) (l : List A) (d : A) → ((i : ℕ) → i < length l → g (getD l i d) ≡ h (getD l i d)) → map g l ≡ map h l
+map-alike g h l d same =
+    sym (tab-getD g l d) ∙ tab-alike (length l) (λ (i : ℕ). g (getD l i d)) (λ (i : ℕ). h (getD l i d)) same ∙ tab-getD h l d
+
 -- ---- a part of a list, from one place up to another
 
 -- how long it is
