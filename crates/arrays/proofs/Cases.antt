@@ -13,7 +13,8 @@ use Rattle.magnitudes.specs.Modes.{modeOf, usesWord, K, u, takesHi}
 use Rattle.magnitudes.specs.Destinations.{taken, written, goesTo}
 use Rattle.rounding.specs.Rounded.{answerTo, rounded}
 use Rattle.rounding.specs.Calls.{bitsFit, refusal}
-use Rattle.arrays.specs.Rounding.{lengthsRefusal, arrayRefusal, report, reported, roundedAt, afterwards}
+use Rattle.reports.specs.Reports.{report}
+use Rattle.arrays.specs.Rounding.{lengthsRefusal, arrayRefusal, reported, roundedAt, afterwards}
 
 -- document 01's job: one input twice, whose rest is 3/8 of the step from 3 to 3.25, so that K is 3, with the words 4 and 5: just
 -- below 2^r - K, and at it

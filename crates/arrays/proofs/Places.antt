@@ -17,7 +17,8 @@ use Rattle.magnitudes.proofs.ModeTables.{mode-unread}
 use Rattle.rounding.specs.Rounded.{rounded}
 use Rattle.rounding.specs.Calls.{refusal, answered, refused, roundOne}
 use Rattle.rounding.proofs.Refusals.{refusal-unread}
-use Rattle.arrays.specs.Rounding.{lengthsRefusal, arrayRefusal, refusalOf, report, reported, roundedAt, afterwards}
+use Rattle.reports.specs.Reports.{report}
+use Rattle.arrays.specs.Rounding.{lengthsRefusal, arrayRefusal, refusalOf, reported, roundedAt, afterwards}
 use Rattle.arrays.specs.Facts.{SameBut}
 use Rattle.arrays.proofs.UnreadWords.{unused-unread}
 use Rattle.arrays.proofs.Accepted.{numbers-accepted, lengths-alike, refused-alike}

@@ -14,7 +14,6 @@ use Rattle.rounding.specs.Calls.{refusal}
 use Rattle.rounding.specs.BySettings.{unlessRefused, prepared}
 use Rattle.rounding.proofs.Preparations.{ready-none, ready-settings, refused-is, refused-some}
 use Rattle.arrays.specs.Rounding.{lengthsRefusal, arrayRefusal}
-use Rattle.arrays.specs.Codes.{thenLengths}
 use Rattle.arrays.specs.Loops.{decided}
 use Rattle.arrays.proofs.Accepted.{by-lengths-alone}
 
@@ -38,22 +37,6 @@ module _ (mode : Mode) (words inputs outputs : ℕ) where
       pub accepts-words : inputs ≤ words → 0 ≡ lengthsRefusal mode words inputs outputs
       unfolding lengthsRefusal
       accepts-words enough = simp (eq-eqb outputs inputs same, ← tested, not-false b used, le-ltb words inputs enough)
-
--- ---- the same for packing and unpacking, after what the format refuses
-
-module _ (number inputs outputs : ℕ) where
-  pub format-refused : (number ≡ 0 → ⊥) → number ≡ thenLengths number inputs outputs
-  unfolding thenLengths
-  format-refused some = simp (ne-eqb number 0 some)
-
-  module _ (none : number ≡ 0) where
-    pub accepts-codes-output : outputs ≡ inputs → 0 ≡ thenLengths number inputs outputs
-    unfolding thenLengths
-    accepts-codes-output same = simp (eq-eqb number 0 none, eq-eqb outputs inputs same)
-
-    pub refuses-codes-output : (outputs ≡ inputs → ⊥) → 5 ≡ thenLengths number inputs outputs
-    unfolding thenLengths
-    refuses-codes-output apart = simp (eq-eqb number 0 none, ne-eqb outputs inputs apart)
 
 -- ---- what is decided
 

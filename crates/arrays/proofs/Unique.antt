@@ -5,17 +5,7 @@ use mathlib.Core.Path.{sym, _∙_}
 use denote.Ref.{now}
 use Rattle.laws.specs.Promises.{OneOutcome}
 use Rattle.arrays.proofs.calls.round_array.Reads as round-array
-use Rattle.arrays.proofs.packing.pack_array.Reads as pack-array
-use Rattle.arrays.proofs.unpacking.unpack_array.Reads as unpack-array
 
 -- what stands in `out`, the last of the six parameters, as `round_array` returns
 pub round-array-unique : OneOutcome round-array.Post (λ κs lent. now (lent .1 .1 .1 .1 .1 .0))
 round-array-unique κs a y z s t p q = (p .0 ∙ sym (q .0), p .1 ∙ sym (q .1))
-
--- in `out`, the last of three, as `pack_array` does
-pub pack-array-unique : OneOutcome pack-array.Post (λ κs lent. now (lent .1 .1 .0))
-pack-array-unique κs a y z s t p q = (p .0 ∙ sym (q .0), p .1 ∙ sym (q .1))
-
--- and as `unpack_array` does
-pub unpack-array-unique : OneOutcome unpack-array.Post (λ κs lent. now (lent .1 .1 .0))
-unpack-array-unique κs a y z s t p q = (p .0 ∙ sym (q .0), p .1 ∙ sym (q .1))

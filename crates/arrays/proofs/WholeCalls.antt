@@ -13,8 +13,9 @@ use Rattle.magnitudes.specs.BySettings.{settings}
 use Rattle.rounding.specs.declared.Prepared.{Prepared}
 use Rattle.rounding.specs.declared.Prepared.the-variants.{Ready, Refused}
 use Rattle.rounding.proofs.Preparations.{ready-none, ready-settings, refused-is, refused-some}
-use Rattle.arrays.specs.declared.Report.{Report}
-use Rattle.arrays.specs.Rounding.{lengthsRefusal, refusalOf, report, reported, afterwards}
+use Rattle.reports.specs.declared.Report.{Report}
+use Rattle.reports.specs.Reports.{report}
+use Rattle.arrays.specs.Rounding.{lengthsRefusal, refusalOf, reported, afterwards}
 use Rattle.arrays.specs.Loops.{decided, roundedAllBy}
 use Rattle.arrays.proofs.Accepted.{lengths-agree, words-suffice, lengths-accepted}
 use Rattle.arrays.proofs.Outcomes.{refused-afterwards, rounded-with-words, rounded-without-words}

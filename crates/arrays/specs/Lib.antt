@@ -1,9 +1,7 @@
--- What an array call is. `Rounding` says what is refused, reported and written where an array is rounded, `Codes` where one is
--- packed or unpacked: these two are what a reader has to believe. `Loops` says what the code decides, looks for and writes on its
--- way, and `Facts` has the words in which the facts about array calls are stated. How to read these files stands at the head of
--- patterns/specs/Lib.antt; `length l` is how many entries a list has, `map g l` is what g makes of each, and `tab` stands in
+-- What an array call is. `Rounding` says what is refused, reported and written: it is what a reader has to believe. `Loops` says
+-- what the code decides and writes on its way, and `Facts` has the words in which the facts about array calls are stated. How to
+-- read these files stands at the head of patterns/specs/Lib.antt; `length l` is how many entries a list has, and `tab` stands in
 -- laws/specs/Lists.antt. `Report` is declared in src/lib.rt.
 pub mod Rounding
-pub mod Codes
 pub mod Loops
 pub mod Facts

@@ -11,7 +11,8 @@ use Rattle.magnitudes.specs.declared.Mode.{Mode}
 use Rattle.magnitudes.specs.Modes.{modeOf, usesWord}
 use Rattle.rounding.specs.Rounded.{rounded}
 use Rattle.rounding.specs.Calls.{refusal}
-use Rattle.arrays.specs.declared.Report.{Report}
+use Rattle.reports.specs.declared.Report.{Report}
+use Rattle.reports.specs.Reports.{report}
 
 -- What the lengths refuse, by how many words, inputs and outputs there are: 5 where the output is not as long as the input, 6
 -- where a mode that uses words, 7 or 8, has fewer of them than inputs; and 0 where nothing.
@@ -30,9 +31,6 @@ abbrev pub refusalOf : Format → ℕ → ℕ → List ℕ → List ℕ → List
 refusalOf f mode r words xs out = arrayRefusal f mode r (length words) (length xs) (length out)
 
 -- what is reported: none of these refusals has a place of its own
-abbrev pub report : ℕ → Report
-report number = record { number = number; place = 0 }
-
 unfoldable pub reported : Format → ℕ → ℕ → List ℕ → List ℕ → List ℕ → Report
 reported f mode r words xs out = report (refusalOf f mode r words xs out)
 

@@ -1,15 +1,16 @@
-// An array of patterns rounded: decide, then write.
+// The calls: decide, then write.
 ghost use mathlib.Core.Path.{_≡_};
-ghost use Rattle.arrays.specs.Rounding.{report, reported, afterwards};
-use super::Report;
+ghost use Rattle.arrays.specs.Rounding.{reported, afterwards};
+ghost use Rattle.reports.specs.Reports.{report};
 use super::decisions::decide;
 use super::decisions::uses_word;
 use super::loops::round_all;
 use grid::Format;
+use reports::Report;
 use rounding::Prepared;
 
 // The report of a call that is about no place: 0, or the number of its refusal.
-pub(crate) fn report_of(number: u64) -> Report
+fn report_of(number: u64) -> Report
     ensures { λ y. ⌜ y ≡ report number ⌝ }
 {
     Report { number, place: 0 }

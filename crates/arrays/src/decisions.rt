@@ -2,7 +2,6 @@
 ghost use mathlib.Core.Path.{_≡_};
 ghost use Rattle.magnitudes.specs.Modes.{usesWord};
 ghost use Rattle.arrays.specs.Rounding.{lengthsRefusal};
-ghost use Rattle.arrays.specs.Codes.{thenLengths};
 ghost use Rattle.arrays.specs.Loops.{decided};
 use grid::Format;
 use magnitudes::Mode;
@@ -65,18 +64,4 @@ pub(crate) fn decide(
         }
         Prepared::Refused(number) => Prepared::Refused(number),
     }
-}
-
-// The number of the first refusal that packing or unpacking meets before it looks at an entry, and 0
-// where it meets none: that of the format, then 5 for the output's length.
-pub(crate) fn codes_refusal(number: u64, inputs: usize, outputs: usize) -> u64
-    ensures { λ y. ⌜ y ≡ thenLengths number inputs outputs ⌝ }
-{
-    if number != 0 {
-        return number;
-    }
-    if outputs == inputs {
-        return 0;
-    }
-    5
 }

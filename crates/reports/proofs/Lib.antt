@@ -1,0 +1,3 @@
+-- The laws on reports.
+pub mod Cases
+pub mod Lowest
