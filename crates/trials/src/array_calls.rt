@@ -25,7 +25,7 @@ fn print_lent(words: &[u64], xs: &[u64], out: &[u64]) {
 }
 
 // Writes what came of a call: its report, and what the output holds now.
-fn print_outcome(report: Report, out: &[u64]) {
+pub(crate) fn print_outcome(report: Report, out: &[u64]) {
     print_number(b" number=", report.number);
     print_number(b" place=", report.place);
     print_patterns(b" y=", out);
