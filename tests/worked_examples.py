@@ -2,16 +2,60 @@
 """worked_examples.py FILE...
 
 Reads the texts that the programs of the crates blackboard and trials have to write, works out every answer
-in them anew, from the rules of document 01 in exact fractions, and compares. It shares nothing with the
-proved code. Leaves with 0 only if each text has at least one answer and all agree.
+in them anew, from the rules of document 01 in exact fractions, and compares; published codes are compared
+with the numbers that are published of them, too. It shares nothing with the proved code. Leaves with 0 only
+if each text has at least one answer and all agree.
 """
 import re
 import sys
 from fractions import Fraction
 
+# what is above every number, and its pattern; magnitude patterns above that are NaNs, and QUIET is what a code's
+# NaN is unpacked to
+INFINITE = float('inf')
+INFINITY = 2047 << 52
+QUIET = INFINITY + 2**51
+
 
 def power(e):
     return Fraction(2) ** e
+
+
+# By p and emax, the numbers that are published of codes without a sign: zero, the smallest and the largest
+# subnormal number, the smallest normal one, the nearest to 1/3, the last below 1, 1, the next, 2, the nearest to
+# pi, the largest number, and infinity; not each of them in every format.
+PUBLISHED = {
+    # binary16
+    (11, 15): {
+        0x0000: 0, 0x0001: power(-24), 0x03FF: 1023 * power(-24), 0x0400: power(-14), 0x3555: Fraction(1365, 4096),
+        0x3BFF: Fraction(2047, 2048), 0x3C00: 1, 0x3C01: Fraction(1025, 1024), 0x7BFF: 65504, 0x7C00: INFINITE},
+    # bfloat16
+    (8, 127): {
+        0x0000: 0, 0x0001: power(-133), 0x007F: 127 * power(-133), 0x0080: power(-126), 0x3EAB: Fraction(171, 512),
+        0x3F80: 1, 0x3F81: Fraction(129, 128), 0x4000: 2, 0x4049: Fraction(201, 64), 0x7F7F: 255 * 2**120,
+        0x7F80: INFINITE},
+    # TensorFloat-32
+    (11, 127): {
+        0x00000: 0, 0x00001: power(-136), 0x003FF: 1023 * power(-136), 0x00400: power(-126), 0x1FC00: 1,
+        0x1FC01: Fraction(1025, 1024), 0x3FBFF: 2047 * 2**117, 0x3FC00: INFINITE},
+    # binary32
+    (24, 127): {
+        0x00000000: 0, 0x00000001: power(-149), 0x007FFFFF: 8388607 * power(-149), 0x00800000: power(-126),
+        0x3EAAAAAB: Fraction(11184811, 33554432), 0x3F7FFFFF: 1 - power(-24), 0x3F800000: 1,
+        0x3F800001: 1 + power(-23), 0x40000000: 2, 0x40490FDB: Fraction(13176795, 4194304),
+        0x7F7FFFFF: 16777215 * 2**104, 0x7F800000: INFINITE},
+    # binary64
+    (53, 1023): {
+        0x0000000000000000: 0, 0x0000000000000001: power(-1074), 0x000FFFFFFFFFFFFF: power(-1022) - power(-1074),
+        0x0010000000000000: power(-1022), 0x3FD5555555555555: 6004799503160661 * power(-54), 0x3FF0000000000000: 1,
+        0x3FF0000000000001: 1 + power(-52), 0x4000000000000000: 2,
+        0x400921FB54442D18: Fraction(884279719003555, 281474976710656), 0x7FEFFFFFFFFFFFFF: 2**1024 - 2**971,
+        0x7FF0000000000000: INFINITE},
+    # E5M2
+    (3, 15): {
+        0x00: 0, 0x01: power(-16), 0x03: 3 * power(-16), 0x04: power(-14), 0x3C: 1, 0x3D: Fraction(5, 4),
+        0x7B: 57344, 0x7C: INFINITE},
+}
 
 
 def value(magnitude):
@@ -23,14 +67,15 @@ def value(magnitude):
 
 
 def pattern(number):
-    """The magnitude pattern of a number that binary64 holds."""
-    field = 1
-    while number >= power(field - 1022) and field < 2046:
-        field += 1
-    if number < power(-1022):
-        field = 0
+    """The magnitude pattern of a number that binary64 holds, or of what is infinite."""
+    if number == INFINITE:
+        return INFINITY
+    number = Fraction(number)
+    # the exponent of the first digit: the denominator is a power of two
+    e = number.numerator.bit_length() - number.denominator.bit_length()
+    field = 0 if number < power(-1022) else e + 1023
     fraction = number * power(1074) if field == 0 else number * power(1075 - field) - 2**52
-    assert fraction.denominator == 1 and 0 <= fraction < 2**52
+    assert fraction.denominator == 1 and 0 <= fraction < 2**52 and field < 2047
     return field * 2**52 + int(fraction)
 
 
@@ -65,17 +110,16 @@ def takes_hi(mode, negative, lo, hi, m, a, r, word):
 
 def rounded(p, emax, sub, mode, r, word, x):
     sign, magnitude = x & 2**63, x & (2**63 - 1)
-    infinity = 2047 << 52
-    if magnitude == 0 or magnitude >= infinity:
+    if magnitude == 0 or magnitude >= INFINITY:
         return x
     negative, a, top = sign != 0, value(magnitude), power(emax + 1)
     if a >= top:
         xmax = power(emax) * (2 - power(1 - p))
         finite = mode in (3, 6) or (mode == 4 and negative) or (mode == 5 and not negative)
-        return sign | (pattern(xmax) if finite else infinity)
+        return sign | pattern(xmax if finite else INFINITE)
     lo, hi, m = neighbours(a, p, emax, sub)
     answer = lo if a == lo or not takes_hi(mode, negative, lo, hi, m, a, r, word) else hi
-    return sign | (infinity if answer >= top else pattern(answer))
+    return sign | pattern(INFINITE if answer >= top else answer)
 
 
 def refusal(p, emax, mode, r):
@@ -86,6 +130,70 @@ def refusal(p, emax, mode, r):
     if mode > 8:
         return 3
     return 4 if mode == 7 and not 1 <= r <= 53 else 0
+
+
+def width(p, emax):
+    """k, by IEEE 754's rule for interchange formats, emax = 2^(k-p-1) - 1; None for a format without codes."""
+    return next((k for k in range(p + 2, p + 12) if 2 ** (k - p - 1) - 1 == emax), None)
+
+
+def code_refusal(p, emax):
+    number = refusal(p, emax, 0, 0)
+    return 7 if number == 0 and width(p, emax) is None else number
+
+
+def number_of(p, emax, code):
+    """What a code without a sign stands for, by IEEE 754's fields E and T; None for a NaN."""
+    field, trailing = divmod(code, 2 ** (p - 1))
+    if field == 2 ** (width(p, emax) - p) - 1:
+        return None if trailing else INFINITE
+    if field == 0:
+        return power(1 - emax) * (0 + trailing * power(1 - p))
+    return power(field - emax) * (1 + trailing * power(1 - p))
+
+
+def unpacked(p, emax, sub, code):
+    """The number of the refusal, or 0, and the pattern."""
+    number = code_refusal(p, emax)
+    if number == 0 and code >= 2 ** width(p, emax):
+        number = 9
+    if number:
+        return number, 0
+    sign, magnitude = divmod(code, 2 ** (width(p, emax) - 1))
+    field, trailing = divmod(magnitude, 2 ** (p - 1))
+    if not sub and field == 0 and trailing:
+        return 10, 0
+    worth = number_of(p, emax, magnitude)
+    return 0, sign << 63 | (QUIET if worth is None else pattern(worth))
+
+
+def packed(p, emax, sub, x):
+    """The number of the refusal, or 0, and the code: the one that has the pattern's value and sign."""
+    number = code_refusal(p, emax)
+    if number:
+        return number, 0
+    k = width(p, emax)
+    sign, magnitude = divmod(x, 2**63)
+    low, high = 0, 2 ** (k - 1) - 2 ** (p - 1)
+    if magnitude > INFINITY:
+        return 0, sign << (k - 1) | high | 2 ** (p - 2)
+    # from 0 to infinity the numbers go up with the codes: halve until one code is left
+    a = INFINITE if magnitude == INFINITY else value(magnitude)
+    while low < high:
+        middle = (low + high) // 2
+        if number_of(p, emax, middle) < a:
+            low = middle + 1
+        else:
+            high = middle
+    code = sign << (k - 1) | low
+    return (0, code) if unpacked(p, emax, sub, code) == (0, x) else (8, 0)
+
+
+def as_published(p, emax, code, x):
+    """Whether the pattern is that of the number that is published of the code, if there is one."""
+    sign, magnitude = divmod(code, 2 ** (width(p, emax) - 1))
+    number = PUBLISHED.get((p, emax), {}).get(magnitude)
+    return number is None or x == sign << 63 | pattern(number)
 
 
 def array_refusal(p, emax, mode, r, words, inputs, outputs):
@@ -128,34 +236,107 @@ def total_answers(line):
     return answers
 
 
+def call_answers(line):
+    # half a step above 1 in binary16, with subnormals and word 0
+    p, emax, mode, r, number = map(int, line.groups())
+    if number != refusal(p, emax, mode, r):
+        return None
+    return [0 if number else rounded(p, emax, True, mode, r, 0, 0x3FF0020000000000)]
+
+
+def draw_answers(line):
+    p, emax, sub, r = map(int, line.groups()[:4])
+    return [rounded(p, emax, sub == 1, 7, r, int(line[5], 16), int(line[6], 16))]
+
+
+def row_answers(line):
+    p, emax, sub = map(int, line.groups()[:3])
+    calls = [(mode, 0, 0) for mode in range(7)] + [(7, 2, word) for word in range(4)] + [(8, 0, 0), (8, 0, 1)]
+    return [rounded(p, emax, sub == 1, mode, r, word, int(line[4], 16)) for mode, r, word in calls]
+
+
+def pack_answers(line):
+    p, emax, sub = map(int, line.groups()[:3])
+    x = int(line[4], 16)
+    number, code = packed(p, emax, sub == 1, x)
+    if number != int(line[5]) or (number == 0 and not as_published(p, emax, code, x)):
+        return None
+    return [code]
+
+
+def unpack_answers(line):
+    p, emax, sub = map(int, line.groups()[:3])
+    code = int(line[4], 16)
+    number, x = unpacked(p, emax, sub == 1, code)
+    if number != int(line[5]) or (number == 0 and not as_published(p, emax, code, x)):
+        return None
+    return [x]
+
+
+def code_array_answers(line):
+    """What the output of a call that packs or unpacks holds afterwards, or None if the report on the line is wrong."""
+    one = {'pack': packed, 'unpack': unpacked}[line[1]]
+    p, emax, sub = map(int, line.groups()[1:4])
+    given, held = ([int(n, 16) for n in line[k].split()] for k in (5, 6))
+    number, place = code_refusal(p, emax), 0
+    if number == 0 and len(held) != len(given):
+        number = 5
+    answers = [] if number else [one(p, emax, sub == 1, n) for n in given]
+    bad = [i for i, (refused, _) in enumerate(answers) if refused]
+    if bad:
+        number, place = answers[min(bad)][0], min(bad)
+    if (int(line[7]), int(line[8])) != (number, place):
+        return None
+    return held if number else [answer for _, answer in answers]
+
+
+def sweep_answers(line):
+    """All patterns of a format mixed into one number, or None if a count on the line is wrong."""
+    p, emax, sub, codes = map(int, line.groups()[:4])
+    if code_refusal(p, emax) or codes != 2 ** width(p, emax):
+        return None
+    half = codes // 2
+    there = [unpacked(p, emax, sub == 1, code) for code in range(codes)]
+    xs = {code: x for code, (number, x) in enumerate(there) if number == 0}
+    numbers = {x: code for code, x in xs.items() if x % 2**63 <= INFINITY}
+    nans = [code for code, x in xs.items() if x % 2**63 == QUIET]
+    upward = [number_of(p, emax, code) for code in sorted(numbers.values()) if code < half]
+    counts = (
+        sum(number == 10 for number, _ in there),
+        # every number and infinity comes back, and of the NaNs what is quiet already
+        len(numbers) + sum(packed(p, emax, sub == 1, xs[code]) == (0, code) for code in nans),
+        len(nans),
+        sum(a < b for a, b in zip(upward, upward[1:])),
+        sum((x + 1) % 2**63 <= INFINITY and x + 1 not in numbers for x in xs.values()))
+    if tuple(map(int, line.groups()[4:])) != counts:
+        return None
+    mix = 0
+    for _, x in there:
+        mix = ((mix << 1 | mix >> 63) + x) % 2**64
+    return [mix]
+
+
+# how a line begins, and what works out the answers behind its y=
+FORMAT, HEX, LIST = r'p=(\d+) emax=(\d+) sub=([01])', '([0-9a-f]{16})', '((?: [0-9a-f]{16})*)'
+KINDS = (
+    (r'p=(\d+) emax=(\d+) mode=(\d+) r=(\d+) number=(\d+)', call_answers),
+    (FORMAT + r' r=(\d+) w=' + HEX + ' x=' + HEX, draw_answers),
+    (FORMAT + ' x=' + HEX, row_answers),
+    (FORMAT + r' mode=(\d+) r=(\d+) w=' + LIST + ' x=' + LIST + ' held=' + LIST + r' number=(\d+) place=(\d+)', array_answers),
+    (FORMAT + r' mode=7 r=(\d+) x=' + HEX + r' number=(\d+) sum=' + HEX + ' chopped=' + HEX + ' same=1', total_answers),
+    (FORMAT + ' pack=' + HEX + r' number=(\d+)', pack_answers),
+    (FORMAT + ' unpack=' + HEX + r' number=(\d+)', unpack_answers),
+    ('(pack|unpack) ' + FORMAT + ' given=' + LIST + ' held=' + LIST + r' number=(\d+) place=(\d+)', code_array_answers),
+    (FORMAT + r' codes=(\d+) refused=(\d+) back=(\d+) quiet=(\d+) ordered=(\d+) alone=(\d+)', sweep_answers),
+)
+
+
 def due(line):
     """The answers that belong on a line behind its y=, or None if the rest of the line is wrong."""
-    call = re.fullmatch(r'p=(\d+) emax=(\d+) mode=(\d+) r=(\d+) number=(\d+) y=.*', line)
-    draw = re.fullmatch(r'p=(\d+) emax=(\d+) sub=([01]) r=(\d+) w=([0-9a-f]{16}) x=([0-9a-f]{16}) y=.*', line)
-    row = re.fullmatch(r'p=(\d+) emax=(\d+) sub=([01]) x=([0-9a-f]{16}) y=.*', line)
-    array = re.fullmatch(
-        r'p=(\d+) emax=(\d+) sub=([01]) mode=(\d+) r=(\d+) w=((?: [0-9a-f]{16})*) x=((?: [0-9a-f]{16})*)'
-        r' held=((?: [0-9a-f]{16})*) number=(\d+) place=(\d+) y=.*', line)
-    total = re.fullmatch(
-        r'p=(\d+) emax=(\d+) sub=([01]) mode=7 r=(\d+) x=([0-9a-f]{16}) number=(\d+) sum=([0-9a-f]{16}) chopped=([0-9a-f]{16})'
-        r' same=1 y=.*', line)
-    if array:
-        return array_answers(array)
-    if total:
-        return total_answers(total)
-    if call:
-        # half a step above 1 in binary16, with subnormals and word 0
-        p, emax, mode, r, number = map(int, call.groups())
-        if number != refusal(p, emax, mode, r):
-            return None
-        return [0 if number else rounded(p, emax, True, mode, r, 0, 0x3FF0020000000000)]
-    if draw:
-        p, emax, sub, r = map(int, draw.groups()[:4])
-        return [rounded(p, emax, sub == 1, 7, r, int(draw[5], 16), int(draw[6], 16))]
-    if row:
-        p, emax, sub = map(int, row.groups()[:3])
-        calls = [(mode, 0, 0) for mode in range(7)] + [(7, 2, word) for word in range(4)] + [(8, 0, 0), (8, 0, 1)]
-        return [rounded(p, emax, sub == 1, mode, r, word, int(row[4], 16)) for mode, r, word in calls]
+    for form, answers in KINDS:
+        parts = re.fullmatch(form + ' y=.*', line)
+        if parts:
+            return answers(parts)
     return None
 
 

@@ -1,5 +1,6 @@
 -- The starred examples of document 01, "Blackboard examples", as one table. What each says is a test, `holds`; that all of
--- them hold is the fact `starred-hold`. Modes go by their numbers, and patterns are binary64's. Assumes nothing.
+-- them hold is the fact `starred-hold`. Modes go by their numbers, patterns are binary64's, and codes are the format's own.
+-- Assumes nothing.
 use mathlib.Core.Bool.{Bool, false, _&&_}
 use mathlib.Core.List.{List, [], _∷_}
 use Prim.Native.Nat.{ℕ, _-_}
@@ -12,6 +13,9 @@ use Rattle.known.specs.Table.{withSubnormals}
 use Rattle.magnitudes.specs.Modes.{K}
 use Rattle.rounding.specs.declared.Answer.{Answer}
 use Rattle.rounding.specs.Calls.{roundOne}
+use Rattle.codes.specs.declared.Packed.{Packed}
+use Rattle.codes.specs.declared.Unpacked.{Unpacked}
+use Rattle.codes.specs.Calls.{packOne, unpackOne}
 
 abbrev pub binary16 : Format
 binary16 = withSubnormals 11 15
@@ -19,14 +23,25 @@ binary16 = withSubnormals 11 15
 abbrev pub binary16WithoutSubnormals : Format
 binary16WithoutSubnormals = record { p = 11; emax = 15; sub = false }
 
--- what an example says: a call is accepted and answers this pattern; or K has this value at an input
+-- what an example says: a rounding is accepted and answers this pattern; K has this value at an input; a pattern has this code,
+-- there and back; or its packing is refused by this number
 pub data Example : Type 0 where
   rounds : (f : Format) (mode r word x pattern : ℕ) → Example
   hasK : (f : Format) (r x k : ℕ) → Example
+  hasCode : (f : Format) (x code : ℕ) → Example
+  packRefused : (f : Format) (x number : ℕ) → Example
 
 -- the answer has this number and this pattern
 unfoldable pub answers : Answer → ℕ → ℕ → Bool
 answers a number pattern = eqb (a .number) number && eqb (a .pattern) pattern
+
+-- the same of packing, with a code,
+unfoldable pub packs : Packed → ℕ → ℕ → Bool
+packs a number code = eqb (a .number) number && eqb (a .code) code
+
+-- and of unpacking
+unfoldable pub unpacks : Unpacked → ℕ → ℕ → Bool
+unpacks a number pattern = eqb (a .number) number && eqb (a .pattern) pattern
 
 -- K at a magnitude: the rest is a - lo, and G is the step
 unfoldable pub sharesAt : Format → ℕ → ℕ → ℕ
@@ -36,6 +51,8 @@ sharesAt f r a = K r (a - lo f a) (step f a)
 unfoldable pub holds : Example → Bool
 holds (rounds f mode r word x pattern) = answers (roundOne f mode r word x) 0 pattern
 holds (hasK f r x k) = eqb (sharesAt f r (val (mag x))) k
+holds (hasCode f x code) = packs (packOne f x) 0 code && unpacks (unpackOne f code) 0 x
+holds (packRefused f x number) = packs (packOne f x) number 0
 
 -- an example in binary16 and a mode that looks at neither r nor a word
 abbrev inMode : ℕ → ℕ → ℕ → Example
@@ -82,4 +99,12 @@ starred =
     ∷ stochastic 2 3 0x3FF0_0300_0000_0000 0x3FF0_0400_0000_0000
     -- and by one
     ∷ hasK binary16 1 0x3FF0_0300_0000_0000 1
+    -- the codes of 1, 65504, infinity, 2^-24 and minus zero
+    ∷ hasCode binary16 0x3FF0_0000_0000_0000 0x3C00
+    ∷ hasCode binary16 0x40EF_FC00_0000_0000 0x7BFF
+    ∷ hasCode binary16 0x7FF0_0000_0000_0000 0x7C00
+    ∷ hasCode binary16 0x3E70_0000_0000_0000 0x0001
+    ∷ hasCode binary16 0x8000_0000_0000_0000 0x8000
+    -- one and a half times zeta has none
+    ∷ packRefused binary16 0x3E78_0000_0000_0000 8
     ∷ []

@@ -4,11 +4,6 @@ use super::rows::print_draw;
 use grid::Format;
 use known::known_format;
 
-// binary16, by its number among the known formats.
-fn binary16() -> Format {
-    known_format(0).format
-}
-
 // A format by its settings.
 fn format(p: u64, emax: u64, sub: bool) -> Format {
     Format { p, emax, sub }
@@ -16,7 +11,7 @@ fn format(p: u64, emax: u64, sub: bool) -> Format {
 
 // Ties in binary16, beside an even and an odd m, and one last place of binary64 on either side.
 pub(crate) fn near_one() {
-    let f = binary16();
+    let f = known_format(0).format;
     print_answers(f, 0x3FF0_01FF_FFFF_FFFF);
     print_answers(f, 0x3FF0_0200_0000_0000);
     print_answers(f, 0x3FF0_0200_0000_0001);
@@ -32,7 +27,7 @@ pub(crate) fn near_one() {
 
 // binary16's largest number, 65520, which is half a step above it, T, and binary64's largest number.
 pub(crate) fn near_the_top() {
-    let f = binary16();
+    let f = known_format(0).format;
     print_answers(f, 0x40EF_FC00_0000_0000);
     print_answers(f, 0x40EF_FC00_0000_0001);
     print_answers(f, 0x40EF_FDFF_FFFF_FFFF);
@@ -47,7 +42,7 @@ pub(crate) fn near_the_top() {
 // Below binary16's normal range: the smallest input of all, half of zeta, one and a half and two and a
 // half times zeta, and half a zeta below the smallest normal number.
 pub(crate) fn near_zeta() {
-    let f = binary16();
+    let f = known_format(0).format;
     print_answers(f, 0x0000_0000_0000_0001);
     print_answers(f, 0x3E5F_FFFF_FFFF_FFFF);
     print_answers(f, 0x3E60_0000_0000_0000);
@@ -100,7 +95,7 @@ pub(crate) fn ends_of_the_range() {
 
 // NaN, quiet and signalling, infinities and zeros.
 pub(crate) fn unaltered() {
-    let f = binary16();
+    let f = known_format(0).format;
     print_answers(f, 0x7FF8_0000_0000_0001);
     print_answers(f, 0xFFF0_0000_0000_0001);
     print_answers(f, 0x7FF0_0000_0000_0000);
@@ -115,7 +110,7 @@ pub(crate) fn job() {
     print_draw(f, 3, 4, 0x4008_C000_0000_0000);
     print_draw(f, 3, 5, 0x4008_C000_0000_0000);
     print_draw(f, 3, 13, 0x4008_C000_0000_0000);
-    let g = binary16();
+    let g = known_format(0).format;
     print_draw(g, 53, 0x001F_FFFF_FFFF_F7FF, 0x3FF0_0000_0000_0001);
     print_draw(g, 53, 0x001F_FFFF_FFFF_F800, 0x3FF0_0000_0000_0001);
 }

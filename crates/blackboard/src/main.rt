@@ -1,8 +1,12 @@
-// Runs the rounding on worked examples and writes what comes back. The whole text has to be that of
-// the file stdout, and tests/worked_examples.py holds that file to the rules of document 01.
+// Runs rounding, packing and unpacking on worked examples and writes what comes back. The whole text
+// has to be that of the file stdout, and tests/worked_examples.py holds that file to the rules of
+// document 01.
 mod answers;
+mod landmarks;
 mod numbers;
+mod packing;
 mod rows;
+mod sweeps;
 mod text;
 
 fn main() {
@@ -16,4 +20,8 @@ fn main() {
     answers::ends_of_the_range();
     answers::unaltered();
     answers::job();
+    landmarks::published();
+    packing::nans_and_refused();
+    packing::in_each_format();
+    sweeps::all_codes();
 }

@@ -1,23 +1,21 @@
-// A line of the text: a call with its number and pattern, or the answers to one input in all modes.
+// A line of the text: a call with its number and answer, or the answers to one input in all modes.
 use super::text::print;
 use super::text::print_number;
 use super::text::print_pattern;
+use codes::Unpacked;
+use codes::pack_one;
+use codes::unpack_one;
 use grid::Format;
 use rounding::round_one;
 
 // Half a step above 1 in binary16: no accepted call answers 0 to it.
 const TIE: u64 = 0x3FF0_0200_0000_0000;
 
-// 1 for on, and 0 for off.
-fn setting(on: bool) -> u64 {
-    if on { 1 } else { 0 }
-}
-
-// Writes the settings of a format.
-fn print_format(format: Format) {
+// Writes the settings of a format; sub is 1 for on, and 0 for off.
+pub(crate) fn print_format(format: Format) {
     print_number(b"p=", format.p);
     print_number(b" emax=", format.emax);
-    print_number(b" sub=", setting(format.sub));
+    print_number(b" sub=", format.sub as u64);
 }
 
 // Writes the settings of a call, its number and its pattern.
@@ -69,4 +67,25 @@ pub(crate) fn print_draw(format: Format, r: u64, word: u64, x: u64) {
     print(b" y=");
     print_answer(format, 7, r, word, x);
     print(b"\n");
+}
+
+// Writes a pattern, and the number and the code that its packing answers.
+pub(crate) fn print_packed(format: Format, x: u64) {
+    let answer = pack_one(format, x);
+    print_format(format);
+    print_pattern(b" pack=", x);
+    print_number(b" number=", answer.number);
+    print_pattern(b" y=", answer.code);
+    print(b"\n");
+}
+
+// Writes a code, and the number and the pattern that its unpacking answers; answers the same.
+pub(crate) fn print_unpacked(format: Format, c: u64) -> Unpacked {
+    let answer = unpack_one(format, c);
+    print_format(format);
+    print_pattern(b" unpack=", c);
+    print_number(b" number=", answer.number);
+    print_pattern(b" y=", answer.pattern);
+    print(b"\n");
+    answer
 }
