@@ -16,7 +16,7 @@ unset CDPATH
 cd "$(dirname "$0")/.."
 
 at_a_promise='(error: |\()`returns(-[0-9]+)?`|error: `loop-(holds|again)(-[0-9]+)?`: `search`: no proof of `FilledTo '
-at_a_law='proofs/[A-Za-z]+\.antt:[0-9]+:[0-9]+: error: `[^`]*`: ((as printed|computed as far as they go), the two types differ|`omega`: the goal does not follow|`search`: no proof of)'
+at_a_law='proofs/[A-Za-z]+\.antt:[0-9]+:[0-9]+: error: `[^`]*`: ((as printed|computed as far as they go), the two types (first )?differ|`omega`: the goal does not follow|`search`: no proof of)'
 follows='was not admitted'
 
 # the facts that docs/PROMISES.md lists, as the prover names them in a complaint
