@@ -21,7 +21,9 @@ fn main() {
     answers::unaltered();
     answers::job();
     landmarks::published();
-    packing::nans_and_refused();
-    packing::in_each_format();
+    packing::nans();
+    packing::lacking();
+    packing::without_subnormals();
+    packing::formats();
     sweeps::all_codes();
 }

@@ -54,35 +54,6 @@ const SMALL: [u64; 7] = [
     0x3E70_0000_0000_0000,
 ];
 
-// p and emax: formats that have a code, and then others; 8 and 9 come after the numbers of these.
-const SETTINGS: [[u64; 2]; 22] = [
-    [2, 1],
-    [2, 1023],
-    [11, 1],
-    [11, 127],
-    [11, 1023],
-    [53, 1],
-    [53, 511],
-    [53, 1023],
-    // 1: p
-    [0, 15],
-    [1, 15],
-    [1, 100],
-    [1, 1024],
-    [54, 15],
-    [LAST, 15],
-    // 2: emax
-    [11, 0],
-    [11, 1024],
-    [11, 2047],
-    [11, LAST],
-    // 7: emax + 1 is no power of two
-    [11, 2],
-    [11, 14],
-    [11, 100],
-    [11, 1022],
-];
-
 // Writes the code of each pattern.
 fn pack_each(format: Format, xs: &[u64]) {
     let mut i = 0;
@@ -104,38 +75,63 @@ pub(crate) fn unpack_each(format: Format, codes: &[u64]) {
     }
 }
 
-// NaNs, in eight bits and in 64; then what is refused in a format that has a code.
-pub(crate) fn nans_and_refused() {
+// NaNs, to eight bits and to 64.
+pub(crate) fn nans() {
     pack_each(known_format(5).format, &NANS);
     pack_each(known_format(4).format, &NANS);
-    // 8: a pattern that the format lacks
+}
+
+// 8: a pattern that the format lacks. 9: a code with more than k bits.
+pub(crate) fn lacking() {
     let f = known_format(0).format;
     pack_each(f, &LACKING);
-    // 9: a code with more than k bits
     unpack_each(f, &[0x1_0000, 0x1_3C00, LAST]);
-    // without subnormals
+}
+
+// Without subnormals, 10: a code that is no number. 9 comes before it.
+pub(crate) fn without_subnormals() {
+    let f = known_format(0).format;
     let without = Format { sub: false, ..f };
     pack_each(without, &SMALL);
-    // 10: a code that is no number; 9 comes before it
     unpack_each(without, &[0x0000, 0x0001, 0x03FF, 0x0400]);
     unpack_each(without, &[0x8000, 0x8001, 0x83FF, 0x8400, 0x1_0001]);
 }
 
-// Writes the codes of 1 and of the number after it, and the patterns of code 1 and of the last 64-bit
-// number, in each format.
-pub(crate) fn in_each_format() {
-    let mut i = 0;
-    while i < 22 {
-        let settings = SETTINGS[i];
-        let format = Format {
-            p: settings[0],
-            emax: settings[1],
-            sub: true,
-        };
-        print_packed(format, ONE);
-        print_packed(format, AFTER_ONE);
-        print_unpacked(format, 1);
-        print_unpacked(format, LAST);
-        i += 1;
-    }
+// Writes the codes of 1 and of the number after it in a format, and the patterns of code 1 and of the
+// last 64-bit number.
+fn print_in(p: u64, emax: u64) {
+    let format = Format { p, emax, sub: true };
+    print_packed(format, ONE);
+    print_packed(format, AFTER_ONE);
+    print_unpacked(format, 1);
+    print_unpacked(format, LAST);
+}
+
+// Which formats have a code, and by which number the others are refused; 8 and 9 come after these.
+pub(crate) fn formats() {
+    print_in(2, 1);
+    print_in(2, 1023);
+    print_in(11, 1);
+    print_in(11, 127);
+    print_in(11, 1023);
+    print_in(53, 1);
+    print_in(53, 511);
+    print_in(53, 1023);
+    // 1: p
+    print_in(0, 15);
+    print_in(1, 15);
+    print_in(1, 100);
+    print_in(1, 1024);
+    print_in(54, 15);
+    print_in(LAST, 15);
+    // 2: emax
+    print_in(11, 0);
+    print_in(11, 1024);
+    print_in(11, 2047);
+    print_in(11, LAST);
+    // 7: emax + 1 is no power of two
+    print_in(11, 2);
+    print_in(11, 14);
+    print_in(11, 100);
+    print_in(11, 1022);
 }
