@@ -13,8 +13,8 @@ use Rattle.known.specs.Table.{withSubnormals}
 use Rattle.magnitudes.specs.Modes.{K}
 use Rattle.rounding.specs.declared.Answer.{Answer}
 use Rattle.rounding.specs.Calls.{roundOne}
-use Rattle.codes.specs.declared.Packed.{Packed}
-use Rattle.codes.specs.declared.Unpacked.{Unpacked}
+use Rattle.bylayout.specs.declared.Packed.{Packed}
+use Rattle.bylayout.specs.declared.Unpacked.{Unpacked}
 use Rattle.codes.specs.Calls.{packOne, unpackOne}
 
 abbrev pub binary16 : Format

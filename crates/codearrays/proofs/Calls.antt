@@ -11,10 +11,10 @@ use Rattle.layouts.specs.declared.Laid.{Laid}
 use Rattle.layouts.specs.Fields.{HasCode}
 use Rattle.layouts.specs.Layouts.{layout, laid}
 use Rattle.layouts.proofs.Refusals.{accepted-has-code, laid-number, laid-layout}
-use Rattle.codes.specs.declared.Packed.{Packed}
-use Rattle.codes.specs.declared.Unpacked.{Unpacked}
+use Rattle.bylayout.specs.declared.Packed.{Packed}
+use Rattle.bylayout.specs.declared.Unpacked.{Unpacked}
 use Rattle.codes.specs.Calls.{packed, unpacked}
-use Rattle.codes.specs.ByLayout.{packedBy, unpackedBy}
+use Rattle.bylayout.specs.ByLayout.{packedBy, unpackedBy}
 use Rattle.codes.proofs.PackedByLayout.{packed-by-layout}
 use Rattle.codes.proofs.UnpackedByLayout.{unpacked-by-layout}
 use Rattle.reports.specs.declared.Report.{Report}

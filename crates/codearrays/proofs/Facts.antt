@@ -10,7 +10,8 @@ use Rattle.laws.proofs.Lists.{getD-map}
 use Rattle.grid.specs.declared.Format.{Format}
 use Rattle.layouts.specs.Calls.{formatRefusal}
 use Rattle.layouts.proofs.Refusals.{accepted-has-code}
-use Rattle.codes.specs.Calls.{asCode, asPattern, packOne, unpackOne}
+use Rattle.bylayout.specs.Answers.{asCode, asPattern}
+use Rattle.codes.specs.Calls.{packOne, unpackOne}
 use Rattle.codes.proofs.Answers.{pack-accepted, unpack-accepted}
 use Rattle.reports.specs.declared.Report.{Report}
 use Rattle.reports.specs.Reports.{report, firstRefused, NoneRefused, LowestRefused}

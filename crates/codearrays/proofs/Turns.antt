@@ -9,8 +9,8 @@ use borrow.Author.Count.{below-more}
 use Rattle.laws.specs.Fills.{FilledTo}
 use Rattle.laws.proofs.Fills.{filled-none, filled-more, filled-all}
 use Rattle.laws.proofs.Lists.{tab-getD, getD-map}
-use Rattle.codes.specs.declared.Packed.{Packed}
-use Rattle.codes.specs.declared.Unpacked.{Unpacked}
+use Rattle.bylayout.specs.declared.Packed.{Packed}
+use Rattle.bylayout.specs.declared.Unpacked.{Unpacked}
 use Rattle.reports.specs.Reports.{report, reportAt, firstRefused}
 use Rattle.codearrays.specs.Loops.{ofEntry, noRefusal}
 use Rattle.reports.proofs.Lowest.{first-refused-nothing, first-refused-only}

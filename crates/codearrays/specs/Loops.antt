@@ -4,7 +4,7 @@ use mathlib.Core.List.{List}
 use Prim.Native.Nat.{ℕ}
 use lib.ListN.{getD}
 use Rattle.layouts.specs.declared.Layout.{Layout}
-use Rattle.codes.specs.ByLayout.{packedBy, unpackedBy}
+use Rattle.bylayout.specs.ByLayout.{packedBy, unpackedBy}
 
 -- what a rule says of entry i
 unfoldable pub ofEntry : (ℕ → ℕ) → List ℕ → ℕ → ℕ

@@ -6,7 +6,7 @@ ghost use Rattle.reports.specs.Reports.{firstRefused};
 ghost use Rattle.codearrays.specs.Codes.{packReported, packAfterwards};
 ghost use Rattle.codearrays.specs.Loops.{packNumberBy, packCodeBy};
 use super::decisions::codes_refusal;
-use codes::pack_by;
+use bylayout::pack_by;
 use grid::Format;
 use layouts::Layout;
 use layouts::lay_out;

@@ -6,7 +6,7 @@ ghost use Rattle.reports.specs.Reports.{firstRefused};
 ghost use Rattle.codearrays.specs.Codes.{unpackReported, unpackAfterwards};
 ghost use Rattle.codearrays.specs.Loops.{unpackNumberBy, unpackPatternBy};
 use super::decisions::codes_refusal;
-use codes::unpack_by;
+use bylayout::unpack_by;
 use grid::Format;
 use layouts::Layout;
 use layouts::lay_out;

@@ -13,11 +13,12 @@ use Rattle.grid.specs.declared.Format.{Format}
 use Rattle.layouts.specs.Fields.{HasCode, width}
 use Rattle.layouts.specs.Calls.{formatRefusal}
 use Rattle.layouts.proofs.Refusals.{accepted-has-code, has-code-accepted, format-refusal-most}
-use Rattle.codes.specs.declared.Packed.{Packed}
-use Rattle.codes.specs.declared.Unpacked.{Unpacked}
+use Rattle.bylayout.specs.declared.Packed.{Packed}
+use Rattle.bylayout.specs.declared.Unpacked.{Unpacked}
 use Rattle.codes.specs.Unpacking.{patternOf, noNumber}
 use Rattle.codes.specs.Packing.{codeOf, inFormat}
-use Rattle.codes.specs.Calls.{asCode, noCode, asPattern, noPattern, packed, unpacked, packOne, unpackOne}
+use Rattle.bylayout.specs.Answers.{asCode, noCode, asPattern, noPattern}
+use Rattle.codes.specs.Calls.{packed, unpacked, packOne, unpackOne}
 
 -- ---- packing
 

@@ -13,7 +13,8 @@ use Rattle.layouts.specs.Fields.{be, hasCode, width, negative, exponent, fracti
 use Rattle.layouts.specs.Calls.{formatRefusal}
 use Rattle.codes.specs.Unpacking.{worthIn, magnitudeOf, patternOf, noNumber}
 use Rattle.codes.specs.Packing.{fieldsOf, infinityFields, nanFields, fieldsBy, codeOf, hasBy, inFormat}
-use Rattle.codes.specs.Calls.{asCode, noCode, asPattern, noPattern, packed, unpacked, packOne, unpackOne}
+use Rattle.bylayout.specs.Answers.{asCode, noCode, asPattern, noPattern}
+use Rattle.codes.specs.Calls.{packed, unpacked, packOne, unpackOne}
 
 -- ---- binary16, with subnormals
 

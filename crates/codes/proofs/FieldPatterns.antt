@@ -18,8 +18,8 @@ use Rattle.grid.specs.declared.Format.{Format}
 use Rattle.grid.specs.Formats.{InRange, emin, smallestNormal}
 use Rattle.grid.proofs.Steps.{emin-normal}
 use Rattle.grid.proofs.Places.{smallest-normal-at}
-use Rattle.codes.specs.ByLayout.{smallPattern}
-use Rattle.codes.proofs.Unpackings.{small-zero, small-short, small-full}
+use Rattle.bylayout.specs.ByLayout.{smallPattern}
+use Rattle.bylayout.proofs.Unpackings.{small-zero, small-short, small-full}
 use Rattle.codes.proofs.Worth.{worthOf, worth-by-pattern}
 
 -- ---- below the normal range

@@ -7,12 +7,10 @@ pub mod Magnitudes
 pub mod Numbers
 pub mod Orders
 pub mod PackedByLayout
-pub mod Packings
 pub mod Parts
 pub mod RoundTrips
 pub mod Unique
 pub mod UnpackedByLayout
-pub mod Unpackings
 pub mod WholeCalls
 pub mod Widest
 pub mod Worth

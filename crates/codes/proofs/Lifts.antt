@@ -15,7 +15,7 @@ use Rattle.layouts.specs.Fields.{HasCode, width, negative}
 use Rattle.layouts.specs.Layouts.{layout}
 use Rattle.layouts.proofs.Fields.{width-fits}
 use Rattle.layouts.proofs.Splits.{negative-is}
-use Rattle.codes.specs.ByLayout.{codeBy, lifted, fieldsIn}
+use Rattle.bylayout.specs.ByLayout.{codeBy, lifted, fieldsIn}
 
 module _ (j s : ℕ) (word : j + s ≡ 63) where
   -- the place above the fields is the sign's

@@ -13,7 +13,7 @@ use Rattle.laws.proofs.Multiples.{multiples-in, ones-and-one}
 use Rattle.laws.proofs.Orders.{below-or-not}
 use Rattle.patterns.specs.declared.Kind.{Kind}
 use Rattle.patterns.specs.declared.Kind.the-variants.{Zero, Finite, Infinity, NaN}
-use Rattle.patterns.specs.Patterns.{mag, infinity, kindOf, val, pat, Binary64}
+use Rattle.patterns.specs.Patterns.{mag, infinity, quietNaN, kindOf, val, pat, Binary64}
 use Rattle.patterns.proofs.Values.{val-pat, pat-val, val-small, binary64-finite}
 use Rattle.patterns.proofs.PatternKinds.{kind-zero, kind-finite, kind-infinity}
 use Rattle.grid.specs.declared.Format.{Format}
@@ -24,7 +24,7 @@ use Rattle.grid.proofs.Neighbours.{candidate-held}
 use Rattle.grid.proofs.Ends.{top-positive}
 use Rattle.layouts.specs.Fields.{be, HasCode, width, ones}
 use Rattle.layouts.proofs.Splits.{width-below-sign}
-use Rattle.codes.specs.Unpacking.{quietNaN, worthIn, magnitudeOf}
+use Rattle.codes.specs.Unpacking.{worthIn, magnitudeOf}
 use Rattle.codes.specs.Packing.{fieldsOf, infinityFields, nanFields, fieldsBy, hasBy, inFormat}
 use Rattle.codes.proofs.Worth.{worthOf}
 use Rattle.codes.proofs.Numbers.{Number, worth-below-top, worth-candidate, worth-held, fields-of-worth, zero-fields, row-below, fields-below, fields-number, worth-of-fields}

@@ -11,9 +11,10 @@ use Rattle.patterns.proofs.Values.{val-increasing}
 use Rattle.patterns.proofs.Signs.{magnitude-is}
 use Rattle.grid.specs.declared.Format.{Format}
 use Rattle.layouts.specs.Fields.{HasCode, width, negative}
-use Rattle.codes.specs.declared.Unpacked.{Unpacked}
+use Rattle.bylayout.specs.declared.Unpacked.{Unpacked}
 use Rattle.codes.specs.Packing.{infinityFields}
-use Rattle.codes.specs.Calls.{asPattern, unpackOne}
+use Rattle.bylayout.specs.Answers.{asPattern}
+use Rattle.codes.specs.Calls.{unpackOne}
 use Rattle.codes.specs.Facts.{CodesInOrder, NumbersInOrder}
 use Rattle.codes.proofs.Worth.{worthOf, worth-increasing}
 use Rattle.codes.proofs.Numbers.{Number}

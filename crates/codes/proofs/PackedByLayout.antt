@@ -27,11 +27,12 @@ use Rattle.grid.proofs.Candidates.{top-short}
 use Rattle.layouts.specs.Fields.{HasCode, width}
 use Rattle.layouts.specs.Layouts.{layout}
 use Rattle.layouts.proofs.Fields.{width-fits}
-use Rattle.codes.specs.declared.Packed.{Packed}
+use Rattle.bylayout.specs.declared.Packed.{Packed}
 use Rattle.codes.specs.Packing.{fieldsOf, infinityFields, nanFields, fieldsBy, codeOf, hasBy, inFormat}
-use Rattle.codes.specs.Calls.{asCode, noCode, packed}
-use Rattle.codes.specs.ByLayout.{depth, heldBy, finiteFields, codeBy, finiteBy, packedAs, packedBy}
-use Rattle.codes.proofs.Packings.{held-small, fields-small, fields-normal}
+use Rattle.bylayout.specs.Answers.{asCode, noCode}
+use Rattle.codes.specs.Calls.{packed}
+use Rattle.bylayout.specs.ByLayout.{depth, heldBy, finiteFields, codeBy, finiteBy, packedAs, packedBy}
+use Rattle.bylayout.proofs.Packings.{held-small, fields-small, fields-normal}
 use Rattle.codes.proofs.Lifts.{code-by}
 use Rattle.codes.proofs.Numbers.{fields-below}
 use Rattle.codes.proofs.Magnitudes.{infinity-fields-fit, nan-fields-fit}

@@ -14,7 +14,8 @@ use Rattle.layouts.specs.Fields.{HasCode, width, negative, exponent, fraction}
 use Rattle.layouts.proofs.Splits.{exponent-is, fraction-is, parts-fit, parts-fields, parts-sign}
 use Rattle.codes.specs.Unpacking.{magnitudeOf, patternOf, noNumber}
 use Rattle.codes.specs.Packing.{codeOf}
-use Rattle.codes.specs.Calls.{asPattern, unpackOne}
+use Rattle.bylayout.specs.Answers.{asPattern}
+use Rattle.codes.specs.Calls.{unpackOne}
 use Rattle.codes.proofs.Numbers.{Number, exponent-some}
 use Rattle.codes.proofs.Magnitudes.{magnitudeFor, fieldsFor}
 use Rattle.codes.proofs.Answers.{number-unpacks}

@@ -8,17 +8,17 @@ use native.Mathlib.Omega.{arith}
 use lib.Pow.{pow-pos}
 use Rattle.laws.proofs.Orders.{le-of-not-lt}
 use Rattle.patterns.specs.declared.Kind.the-variants.{NaN}
-use Rattle.patterns.specs.Patterns.{sign, mag, withSign, infinity, kindOf}
+use Rattle.patterns.specs.Patterns.{sign, mag, withSign, infinity, quietNaN, kindOf}
 use Rattle.patterns.proofs.PatternKinds.{number-not-above}
 use Rattle.grid.specs.declared.Format.{Format}
 use Rattle.layouts.specs.Fields.{HasCode, width, negative}
 use Rattle.layouts.proofs.Splits.{parts-are-code}
 use Rattle.layouts.proofs.Refusals.{accepted-has-code}
-use Rattle.codes.specs.declared.Packed.{Packed}
-use Rattle.codes.specs.declared.Unpacked.{Unpacked}
-use Rattle.codes.specs.Unpacking.{quietNaN}
+use Rattle.bylayout.specs.declared.Packed.{Packed}
+use Rattle.bylayout.specs.declared.Unpacked.{Unpacked}
 use Rattle.codes.specs.Packing.{infinityFields, nanFields, codeOf, inFormat}
-use Rattle.codes.specs.Calls.{asCode, noCode, asPattern, packOne, unpackOne}
+use Rattle.bylayout.specs.Answers.{asCode, noCode, asPattern}
+use Rattle.codes.specs.Calls.{packOne, unpackOne}
 use Rattle.codes.specs.Facts.{UnpackPack, PackUnpack, NaNPackUnpack, RefusesWithoutCode, RefusesOnlyWithoutCode, CodesApart}
 use Rattle.codes.proofs.Numbers.{Number, row-below}
 use Rattle.codes.proofs.Magnitudes.{magnitudeFor, fieldsFor, infinity-fields-fit, nan-fields-above, nan-fields-fit, magnitude-nan, magnitude-fits, nan-fields, nan-has, stands-has, stands-fields, fields-most, fields-are-number, fields-stand}

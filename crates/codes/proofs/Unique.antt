@@ -4,14 +4,6 @@ use mathlib.Core.Path.{sym, _∙_}
 use Rattle.laws.specs.Promises.{OneAnswer}
 use Rattle.codes.proofs.calls.pack_one.Reads as pack-one
 use Rattle.codes.proofs.calls.unpack_one.Reads as unpack-one
-use Rattle.codes.proofs.packing.pack_by.Reads as pack-by
-use Rattle.codes.proofs.unpacking.unpack_by.Reads as unpack-by
-
-pub pack-by-unique : OneAnswer pack-by.Post
-pack-by-unique κs a y z s t p q = p ∙ sym q
-
-pub unpack-by-unique : OneAnswer unpack-by.Post
-unpack-by-unique κs a y z s t p q = p ∙ sym q
 
 pub pack-one-unique : OneAnswer pack-one.Post
 pack-one-unique κs a y z s t p q = p ∙ sym q

@@ -17,12 +17,13 @@ use Rattle.grid.proofs.Steps.{zeta-sub, zeta-not-above}
 use Rattle.layouts.specs.Fields.{HasCode, width}
 use Rattle.layouts.specs.Layouts.{layout}
 use Rattle.layouts.proofs.Splits.{exponent-is, fraction-is}
-use Rattle.codes.specs.declared.Unpacked.{Unpacked}
+use Rattle.bylayout.specs.declared.Unpacked.{Unpacked}
 use Rattle.codes.specs.Unpacking.{patternOf, noNumber}
 use Rattle.codes.specs.Packing.{infinityFields}
-use Rattle.codes.specs.Calls.{asPattern, noPattern, unpacked}
-use Rattle.codes.specs.ByLayout.{smallPattern, magnitudeBy, noNumberBy, lifted, fieldsIn, unpackedBy}
-use Rattle.codes.proofs.Unpackings.{unpacks-small, unpacks-normal, unpacks-infinity, unpacks-nan}
+use Rattle.bylayout.specs.Answers.{asPattern, noPattern}
+use Rattle.codes.specs.Calls.{unpacked}
+use Rattle.bylayout.specs.ByLayout.{smallPattern, magnitudeBy, noNumberBy, lifted, fieldsIn, unpackedBy}
+use Rattle.bylayout.proofs.Unpackings.{unpacks-small, unpacks-normal, unpacks-infinity, unpacks-nan}
 use Rattle.codes.proofs.Lifts.{sign-in, fields-in}
 use Rattle.codes.proofs.Worth.{worthOf, worth-small}
 use Rattle.codes.proofs.Numbers.{Number, exponent-some, row-below}

@@ -10,10 +10,11 @@ use Rattle.layouts.specs.declared.Laid.{Laid}
 use Rattle.layouts.specs.Calls.{formatRefusal}
 use Rattle.layouts.specs.Layouts.{layout, laid}
 use Rattle.layouts.proofs.Refusals.{accepted-has-code, laid-number, laid-layout}
-use Rattle.codes.specs.declared.Packed.{Packed}
-use Rattle.codes.specs.declared.Unpacked.{Unpacked}
-use Rattle.codes.specs.Calls.{noCode, noPattern, packed, unpacked, packOne, unpackOne}
-use Rattle.codes.specs.ByLayout.{packedBy, unpackedBy}
+use Rattle.bylayout.specs.declared.Packed.{Packed}
+use Rattle.bylayout.specs.declared.Unpacked.{Unpacked}
+use Rattle.bylayout.specs.Answers.{noCode, noPattern}
+use Rattle.codes.specs.Calls.{packed, unpacked, packOne, unpackOne}
+use Rattle.bylayout.specs.ByLayout.{packedBy, unpackedBy}
 use Rattle.codes.proofs.PackedByLayout.{packed-by-layout}
 use Rattle.codes.proofs.UnpackedByLayout.{unpacked-by-layout}
 

@@ -15,7 +15,8 @@ use Rattle.grid.specs.Formats.{emin}
 use Rattle.layouts.specs.Fields.{HasCode, width}
 use Rattle.layouts.proofs.Fields.{exponent-bits, ones-are}
 use Rattle.codes.specs.Packing.{infinityFields}
-use Rattle.codes.specs.Calls.{asCode, asPattern, packOne, unpackOne}
+use Rattle.bylayout.specs.Answers.{asCode, asPattern}
+use Rattle.codes.specs.Calls.{packOne, unpackOne}
 use Rattle.codes.proofs.Worth.{worthOf, worth-by-pattern}
 use Rattle.codes.proofs.Magnitudes.{magnitudeFor, magnitude-number, magnitude-infinity}
 use Rattle.codes.proofs.Parts.{signed, pattern-signed, coded, parts-unpack}

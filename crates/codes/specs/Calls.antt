@@ -5,24 +5,11 @@ use lib.Dec.{leb, eqb}
 use Rattle.grid.specs.declared.Format.{Format}
 use Rattle.layouts.specs.Fields.{width}
 use Rattle.layouts.specs.Calls.{formatRefusal}
-use Rattle.codes.specs.declared.Packed.{Packed}
-use Rattle.codes.specs.declared.Unpacked.{Unpacked}
+use Rattle.bylayout.specs.declared.Packed.{Packed}
+use Rattle.bylayout.specs.declared.Unpacked.{Unpacked}
+use Rattle.bylayout.specs.Answers.{asCode, noCode, asPattern, noPattern}
 use Rattle.codes.specs.Unpacking.{patternOf, noNumber}
 use Rattle.codes.specs.Packing.{codeOf, inFormat}
-
--- number 0 and a code, or the refusal's number and code 0
-abbrev pub asCode : ℕ → Packed
-asCode c = record { number = 0; code = c }
-
-abbrev pub noCode : ℕ → Packed
-noCode number = record { number = number; code = 0 }
-
--- number 0 and a pattern, or the refusal's number and pattern 0
-abbrev pub asPattern : ℕ → Unpacked
-asPattern x = record { number = 0; pattern = x }
-
-abbrev pub noPattern : ℕ → Unpacked
-noPattern number = record { number = number; pattern = 0 }
 
 -- a pattern in a format that has a code: 8 where the format lacks it
 unfoldable pub packed : Format → ℕ → Packed

@@ -3,12 +3,12 @@
 use mathlib.Core.Path.{_≡_}
 use Prim.Native.Nat.{ℕ, _^_, _≤_, _<_}
 use Rattle.patterns.specs.declared.Kind.the-variants.{NaN}
-use Rattle.patterns.specs.Patterns.{withSign, infinity, kindOf, val}
+use Rattle.patterns.specs.Patterns.{withSign, infinity, quietNaN, kindOf, val}
 use Rattle.grid.specs.declared.Format.{Format}
 use Rattle.layouts.specs.Fields.{width}
 use Rattle.layouts.specs.Calls.{formatRefusal}
-use Rattle.codes.specs.Unpacking.{quietNaN}
-use Rattle.codes.specs.Calls.{asCode, noCode, asPattern, packOne, unpackOne}
+use Rattle.bylayout.specs.Answers.{asCode, noCode, asPattern}
+use Rattle.codes.specs.Calls.{packOne, unpackOne}
 
 -- every code that unpacks to a number or an infinity packs back to itself
 abbrev pub UnpackPack : Type 0

@@ -3,14 +3,10 @@
 use mathlib.Core.Bool.{Bool, cond, not, _&&_}
 use Prim.Native.Nat.{ℕ, zero, suc, _+_, _-_, _*_, _^_}
 use lib.Dec.{eqb}
-use Rattle.patterns.specs.Patterns.{infinity, pat}
+use Rattle.patterns.specs.Patterns.{infinity, quietNaN, pat}
 use Rattle.grid.specs.declared.Format.{Format}
 use Rattle.grid.specs.Formats.{emin}
 use Rattle.layouts.specs.Fields.{negative, exponent, fraction, bias, ones}
-
--- the NaN that every code of a NaN is unpacked to: no fraction bit but the top one
-abbrev pub quietNaN : ℕ
-quietNaN = infinity + 2 ^ 51
 
 -- What the exponent and the fraction are worth together, in units. At exponent field 0 the fraction counts as it stands, in
 -- the last place of the smallest normal number. Otherwise a one stands in front of it, and the exponent is the field less the
@@ -19,7 +15,8 @@ unfoldable pub worthIn : Format → ℕ → ℕ → ℕ
 worthIn f zero fraction = fraction * 2 ^ (emin f + 1 - f .p)
 worthIn f (suc e) fraction = (2 ^ (f .p - 1) + fraction) * 2 ^ (suc e + 1074 - bias f + 1 - f .p)
 
--- the magnitude pattern that the two fields stand for: infinity or NaN where the exponent is all ones, else a number
+-- The magnitude pattern that the two fields stand for: infinity or NaN where the exponent is all ones, else a number. A NaN's
+-- fraction is not kept.
 unfoldable pub magnitudeOf : Format → ℕ → ℕ → ℕ
 magnitudeOf f exponent fraction =
     cond (eqb exponent (ones f)) (cond (eqb fraction 0) infinity quietNaN) (pat (worthIn f exponent fraction))

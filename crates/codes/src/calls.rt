@@ -1,10 +1,10 @@
 // The whole calls: the format's refusals, then the pattern's or the code's.
 ghost use mathlib.Core.Path.{_≡_};
 ghost use Rattle.codes.specs.Calls.{packOne, unpackOne};
-use super::Packed;
-use super::Unpacked;
-use super::packing::pack_by;
-use super::unpacking::unpack_by;
+use bylayout::Packed;
+use bylayout::Unpacked;
+use bylayout::pack_by;
+use bylayout::unpack_by;
 use grid::Format;
 use layouts::lay_out;
 

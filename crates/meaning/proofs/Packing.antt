@@ -21,7 +21,8 @@ use Rattle.layouts.specs.Fields.{HasCode}
 use Rattle.layouts.specs.Calls.{formatRefusal}
 use Rattle.layouts.proofs.Refusals.{accepted-has-code}
 use Rattle.codes.specs.Packing.{codeOf, hasBy, inFormat}
-use Rattle.codes.specs.Calls.{asCode, packOne}
+use Rattle.bylayout.specs.Answers.{asCode}
+use Rattle.codes.specs.Calls.{packOne}
 use Rattle.codes.proofs.Magnitudes.{number-has, infinity-has}
 use Rattle.codes.proofs.Answers.{in-format-packs}
 use Rattle.magnitudes.specs.declared.Mode.{Mode}

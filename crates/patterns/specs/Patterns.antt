@@ -25,6 +25,10 @@ withSign x m = cond (sign x) (2 ^ 63 + mag m) (mag m)
 abbrev pub infinity : ℕ
 infinity = 2047 * 2 ^ 52
 
+-- that of the NaN with no fraction bit but the top one
+abbrev pub quietNaN : ℕ
+quietNaN = infinity + 2 ^ 51
+
 -- What a pattern is, whatever its sign: zero where no bit but the sign is set, finite and not zero below infinity's pattern,
 -- infinity at it, and NaN above (decision 9).
 unfoldable pub kindOf : ℕ → Kind

@@ -1,7 +1,7 @@
 // A pattern's code, by a layout. `x` is a pattern, `m` its magnitude, `n` the exponent and fraction
 // fields of a code as one number.
 ghost use mathlib.Core.Path.{_≡_};
-ghost use Rattle.codes.specs.ByLayout.{depth, heldBy, finiteFields, codeBy, finiteBy, packedBy};
+ghost use Rattle.bylayout.specs.ByLayout.{depth, heldBy, finiteFields, codeBy, finiteBy, packedBy};
 use super::Packed;
 use layouts::Layout;
 use patterns::Kind;

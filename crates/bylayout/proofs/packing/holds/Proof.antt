@@ -1,8 +1,8 @@
--- `codes::packing::holds` meets its contract. Assumes nothing.
+-- `bylayout::packing::holds` meets its contract. Assumes nothing.
 use borrow.Author.Needs.{needs}
-use Rattle.codes.proofs.Packings.{held-small, held-normal, held-past}
-use Rattle.codes.proofs.packing.holds.Statement.{statement}
-use Rattle.codes.proofs.packing.holds.Tie as tie
+use Rattle.bylayout.proofs.Packings.{held-small, held-normal, held-past}
+use Rattle.bylayout.proofs.packing.holds.Statement.{statement}
+use Rattle.bylayout.proofs.packing.holds.Tie as tie
 
 returns : tie.Need-returns
 returns c = search held-small

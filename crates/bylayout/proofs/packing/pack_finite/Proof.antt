@@ -1,8 +1,8 @@
--- `codes::packing::pack_finite` meets its contract. Assumes nothing.
+-- `bylayout::packing::pack_finite` meets its contract. Assumes nothing.
 use borrow.Author.Needs.{needs}
-use Rattle.codes.proofs.Packings.{finite-packed, finite-refused}
-use Rattle.codes.proofs.packing.pack_finite.Statement.{statement}
-use Rattle.codes.proofs.packing.pack_finite.Tie as tie
+use Rattle.bylayout.proofs.Packings.{finite-packed, finite-refused}
+use Rattle.bylayout.proofs.packing.pack_finite.Statement.{statement}
+use Rattle.bylayout.proofs.packing.pack_finite.Tie as tie
 
 returns : tie.Need-returns
 returns c = search finite-packed

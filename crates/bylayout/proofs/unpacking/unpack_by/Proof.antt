@@ -1,8 +1,8 @@
--- `codes::unpacking::unpack_by` meets its contract. Assumes nothing.
+-- `bylayout::unpacking::unpack_by` meets its contract. Assumes nothing.
 use borrow.Author.Needs.{needs}
-use Rattle.codes.proofs.Unpackings.{answers-too-large, answers-no-number, answers-pattern}
-use Rattle.codes.proofs.unpacking.unpack_by.Statement.{statement}
-use Rattle.codes.proofs.unpacking.unpack_by.Tie as tie
+use Rattle.bylayout.proofs.Unpackings.{answers-too-large, answers-no-number, answers-pattern}
+use Rattle.bylayout.proofs.unpacking.unpack_by.Statement.{statement}
+use Rattle.bylayout.proofs.unpacking.unpack_by.Tie as tie
 
 returns : tie.Need-returns
 returns c = search answers-too-large

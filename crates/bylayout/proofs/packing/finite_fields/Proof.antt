@@ -1,8 +1,8 @@
--- `codes::packing::finite_fields` meets its contract. Assumes nothing.
+-- `bylayout::packing::finite_fields` meets its contract. Assumes nothing.
 use borrow.Author.Needs.{needs}
-use Rattle.codes.proofs.Packings.{fields-small, fields-normal}
-use Rattle.codes.proofs.packing.finite_fields.Statement.{statement}
-use Rattle.codes.proofs.packing.finite_fields.Tie as tie
+use Rattle.bylayout.proofs.Packings.{fields-small, fields-normal}
+use Rattle.bylayout.proofs.packing.finite_fields.Statement.{statement}
+use Rattle.bylayout.proofs.packing.finite_fields.Tie as tie
 
 returns : tie.Need-returns
 returns c = search fields-small

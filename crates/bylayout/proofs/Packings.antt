@@ -10,9 +10,9 @@ use Rattle.patterns.specs.declared.Kind.the-variants.{Zero, Finite, Infinity, N
 use Rattle.patterns.specs.Patterns.{mag, withSign, kindOf, sig}
 use Rattle.patterns.specs.Places.{high, low, movedUp}
 use Rattle.layouts.specs.declared.Layout.{Layout}
-use Rattle.codes.specs.declared.Packed.{Packed}
-use Rattle.codes.specs.Calls.{asCode, noCode}
-use Rattle.codes.specs.ByLayout.{depth, heldBy, finiteFields, codeBy, finiteBy, packedAs, packedBy}
+use Rattle.bylayout.specs.declared.Packed.{Packed}
+use Rattle.bylayout.specs.Answers.{asCode, noCode}
+use Rattle.bylayout.specs.ByLayout.{depth, heldBy, finiteFields, codeBy, finiteBy, packedAs, packedBy}
 
 -- ---- a finite magnitude: whether it is held, and its fields
 

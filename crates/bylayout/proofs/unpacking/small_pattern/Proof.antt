@@ -1,8 +1,8 @@
--- `codes::unpacking::small_pattern` meets its contract. Assumes nothing.
+-- `bylayout::unpacking::small_pattern` meets its contract. Assumes nothing.
 use borrow.Author.Needs.{needs}
-use Rattle.codes.proofs.Unpackings.{small-zero, small-short, small-full}
-use Rattle.codes.proofs.unpacking.small_pattern.Statement.{statement}
-use Rattle.codes.proofs.unpacking.small_pattern.Tie as tie
+use Rattle.bylayout.proofs.Unpackings.{small-zero, small-short, small-full}
+use Rattle.bylayout.proofs.unpacking.small_pattern.Statement.{statement}
+use Rattle.bylayout.proofs.unpacking.small_pattern.Tie as tie
 
 returns : tie.Need-returns
 returns c = search small-zero

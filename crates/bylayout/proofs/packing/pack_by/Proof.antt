@@ -1,8 +1,8 @@
--- `codes::packing::pack_by` meets its contract. Assumes nothing.
+-- `bylayout::packing::pack_by` meets its contract. Assumes nothing.
 use borrow.Author.Needs.{needs}
-use Rattle.codes.proofs.Packings.{zero-packed, finite-answered, infinity-packed, nan-packed}
-use Rattle.codes.proofs.packing.pack_by.Statement.{statement}
-use Rattle.codes.proofs.packing.pack_by.Tie as tie
+use Rattle.bylayout.proofs.Packings.{zero-packed, finite-answered, infinity-packed, nan-packed}
+use Rattle.bylayout.proofs.packing.pack_by.Statement.{statement}
+use Rattle.bylayout.proofs.packing.pack_by.Tie as tie
 
 returns : tie.Need-returns
 returns c = search zero-packed

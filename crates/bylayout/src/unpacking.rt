@@ -1,7 +1,7 @@
 // A code's pattern, by a layout. `c` is a code, `n` its exponent and fraction fields as one number.
 ghost use mathlib.Core.Path.{_≡_};
 ghost use Prim.Native.Nat.{_-_};
-ghost use Rattle.codes.specs.ByLayout.{smallPattern, magnitudeBy, noNumberBy, unpackedBy};
+ghost use Rattle.bylayout.specs.ByLayout.{smallPattern, magnitudeBy, noNumberBy, unpackedBy};
 use super::Unpacked;
 use layouts::Layout;
 use patterns::digits_of;

@@ -1,8 +1,8 @@
--- `codes::unpacking::unpack_magnitude` meets its contract. Assumes nothing.
+-- `bylayout::unpacking::unpack_magnitude` meets its contract. Assumes nothing.
 use borrow.Author.Needs.{needs}
-use Rattle.codes.proofs.Unpackings.{unpacks-small, unpacks-normal, unpacks-infinity, unpacks-nan}
-use Rattle.codes.proofs.unpacking.unpack_magnitude.Statement.{statement}
-use Rattle.codes.proofs.unpacking.unpack_magnitude.Tie as tie
+use Rattle.bylayout.proofs.Unpackings.{unpacks-small, unpacks-normal, unpacks-infinity, unpacks-nan}
+use Rattle.bylayout.proofs.unpacking.unpack_magnitude.Statement.{statement}
+use Rattle.bylayout.proofs.unpacking.unpack_magnitude.Tie as tie
 
 returns : tie.Need-returns
 returns c = search unpacks-small

@@ -6,13 +6,12 @@ use Prim.Native.Nat.{ℕ, _+_, _-_, _%_, _^_}
 use lib.Dec.{ltb, eqb}
 use Rattle.patterns.specs.declared.Kind.{Kind}
 use Rattle.patterns.specs.declared.Kind.the-variants.{Zero, Finite, Infinity, NaN}
-use Rattle.patterns.specs.Patterns.{mag, withSign, infinity, kindOf, ex, sig, digitsOf}
+use Rattle.patterns.specs.Patterns.{mag, withSign, infinity, quietNaN, kindOf, ex, sig, digitsOf}
 use Rattle.patterns.specs.Places.{high, low, movedUp}
 use Rattle.layouts.specs.declared.Layout.{Layout}
-use Rattle.codes.specs.declared.Packed.{Packed}
-use Rattle.codes.specs.declared.Unpacked.{Unpacked}
-use Rattle.codes.specs.Unpacking.{quietNaN}
-use Rattle.codes.specs.Calls.{asCode, noCode, asPattern, noPattern}
+use Rattle.bylayout.specs.declared.Packed.{Packed}
+use Rattle.bylayout.specs.declared.Unpacked.{Unpacked}
+use Rattle.bylayout.specs.Answers.{asCode, noCode, asPattern, noPattern}
 
 -- ---- packing
 

@@ -5,12 +5,11 @@ use mathlib.Core.Path.{_≡_}
 use Prim.Native.Nat.{ℕ, _+_, _-_, _%_, _^_, _≤_, _<_}
 use lib.Dec.{ltb, eqb}
 use borrow.Author.Tests.{lt-ltb, le-ltb, eq-eqb, ne-eqb}
-use Rattle.patterns.specs.Patterns.{mag, withSign, infinity, digitsOf}
+use Rattle.patterns.specs.Patterns.{mag, withSign, infinity, quietNaN, digitsOf}
 use Rattle.patterns.specs.Places.{high, movedUp}
 use Rattle.layouts.specs.declared.Layout.{Layout}
-use Rattle.codes.specs.Unpacking.{quietNaN}
-use Rattle.codes.specs.Calls.{asPattern, noPattern}
-use Rattle.codes.specs.ByLayout.{smallPattern, magnitudeBy, noNumberBy, lifted, unpackedBy}
+use Rattle.bylayout.specs.Answers.{asPattern, noPattern}
+use Rattle.bylayout.specs.ByLayout.{smallPattern, magnitudeBy, noNumberBy, lifted, unpackedBy}
 
 -- ---- below the normal range: 0, a fraction alone, or a first digit where a normal number has it
 
