@@ -28,7 +28,7 @@ binary16WithoutSubnormals = record { p = 11; emax = 15; sub = false }
 pub data Example : Type 0 where
   rounds : (f : Format) (mode r word x pattern : ℕ) → Example
   hasK : (f : Format) (r x k : ℕ) → Example
-  hasCode : (f : Format) (x code : ℕ) → Example
+  coded : (f : Format) (x code : ℕ) → Example
   packRefused : (f : Format) (x number : ℕ) → Example
 
 -- the answer has this number and this pattern
@@ -51,7 +51,7 @@ sharesAt f r a = K r (a - lo f a) (step f a)
 unfoldable pub holds : Example → Bool
 holds (rounds f mode r word x pattern) = answers (roundOne f mode r word x) 0 pattern
 holds (hasK f r x k) = eqb (sharesAt f r (val (mag x))) k
-holds (hasCode f x code) = packs (packOne f x) 0 code && unpacks (unpackOne f code) 0 x
+holds (coded f x code) = packs (packOne f x) 0 code && unpacks (unpackOne f code) 0 x
 holds (packRefused f x number) = packs (packOne f x) number 0
 
 -- an example in binary16 and a mode that looks at neither r nor a word
@@ -100,11 +100,11 @@ starred =
     -- and by one
     ∷ hasK binary16 1 0x3FF0_0300_0000_0000 1
     -- the codes of 1, 65504, infinity, 2^-24 and minus zero
-    ∷ hasCode binary16 0x3FF0_0000_0000_0000 0x3C00
-    ∷ hasCode binary16 0x40EF_FC00_0000_0000 0x7BFF
-    ∷ hasCode binary16 0x7FF0_0000_0000_0000 0x7C00
-    ∷ hasCode binary16 0x3E70_0000_0000_0000 0x0001
-    ∷ hasCode binary16 0x8000_0000_0000_0000 0x8000
+    ∷ coded binary16 0x3FF0_0000_0000_0000 0x3C00
+    ∷ coded binary16 0x40EF_FC00_0000_0000 0x7BFF
+    ∷ coded binary16 0x7FF0_0000_0000_0000 0x7C00
+    ∷ coded binary16 0x3E70_0000_0000_0000 0x0001
+    ∷ coded binary16 0x8000_0000_0000_0000 0x8000
     -- one and a half times zeta has none
     ∷ packRefused binary16 0x3E78_0000_0000_0000 8
     ∷ []

@@ -8,7 +8,7 @@ use borrow.Author.Tests.{lt-ltb, le-ltb}
 use Rattle.patterns.specs.declared.Kind.{Kind}
 use Rattle.patterns.specs.declared.Kind.the-variants.{Zero, Finite, Infinity, NaN}
 use Rattle.patterns.specs.Patterns.{mag, withSign, kindOf, sig}
-use Rattle.patterns.specs.Places.{high, low, movedUp}
+use Rattle.places.specs.Places.{high, low, movedUp}
 use Rattle.layouts.specs.declared.Layout.{Layout}
 use Rattle.bylayout.specs.declared.Packed.{Packed}
 use Rattle.bylayout.specs.Answers.{asCode, noCode}

@@ -6,7 +6,7 @@ use Prim.Native.Nat.{ℕ, _+_, _-_, _%_, _^_, _≤_, _<_}
 use lib.Dec.{ltb, eqb}
 use borrow.Author.Tests.{lt-ltb, le-ltb, eq-eqb, ne-eqb}
 use Rattle.patterns.specs.Patterns.{mag, withSign, infinity, quietNaN, digitsOf}
-use Rattle.patterns.specs.Places.{high, movedUp}
+use Rattle.places.specs.Places.{high, movedUp}
 use Rattle.layouts.specs.declared.Layout.{Layout}
 use Rattle.bylayout.specs.Answers.{asPattern, noPattern}
 use Rattle.bylayout.specs.ByLayout.{smallPattern, magnitudeBy, noNumberBy, lifted, unpackedBy}

@@ -7,7 +7,7 @@ use lib.Dec.{ltb, eqb}
 use Rattle.patterns.specs.declared.Kind.{Kind}
 use Rattle.patterns.specs.declared.Kind.the-variants.{Zero, Finite, Infinity, NaN}
 use Rattle.patterns.specs.Patterns.{mag, withSign, infinity, quietNaN, kindOf, ex, sig, digitsOf}
-use Rattle.patterns.specs.Places.{high, low, movedUp}
+use Rattle.places.specs.Places.{high, low, movedUp}
 use Rattle.layouts.specs.declared.Layout.{Layout}
 use Rattle.bylayout.specs.declared.Packed.{Packed}
 use Rattle.bylayout.specs.declared.Unpacked.{Unpacked}
@@ -23,8 +23,8 @@ depth bottom m = bottom - ex m
 unfoldable pub heldBy : Layout → ℕ → Bool
 heldBy l m = cond (ltb m (l .normal)) (eqb (low (sig m) (depth (l .bottom) m)) 0) (ltb m (l .top) && eqb (low m (l .cut)) 0)
 
--- The fields of one that is: below the normal range its digits from that place on, else how far it is above the smallest normal
--- number, counted in its own last places.
+-- The fields of one that is: below the normal range its digits from that place on; else those of the smallest normal number, and as
+-- many more as the format has numbers from there up to it, which is the difference of the two patterns without the cut digits.
 unfoldable pub finiteFields : Layout → ℕ → ℕ
 finiteFields l m = cond (ltb m (l .normal)) (high (sig m) (depth (l .bottom) m)) ((high (m - l .normal) (l .cut) + l .first) % 2 ^ 64)
 

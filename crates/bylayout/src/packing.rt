@@ -6,13 +6,13 @@ use super::Packed;
 use layouts::Layout;
 use patterns::Kind;
 use patterns::exponent_of;
-use patterns::high_part;
 use patterns::kind_of;
-use patterns::low_part;
 use patterns::magnitude_of;
-use patterns::moved_up;
 use patterns::significand_of;
 use patterns::with_sign;
+use places::high_part;
+use places::low_part;
+use places::moved_up;
 use std::num::wrapping_add_u64;
 
 // The place of the last digit that a number below the normal range may have.
@@ -37,8 +37,8 @@ fn holds(l: Layout, m: u64) -> bool
     m < l.top && low_part(m, l.cut) == 0
 }
 
-// The fields of a magnitude that is: below the normal range its digits down to that place, else how
-// far it is above the smallest normal number, in its own last places.
+// The fields of a magnitude that is: below the normal range its digits down to that place; else those of
+// the smallest normal number, and the difference of the two patterns without the cut digits.
 fn finite_fields(l: Layout, m: u64) -> u64
     ensures { λ y. ⌜ y ≡ finiteFields l m ⌝ }
 {

@@ -5,10 +5,10 @@ ghost use Rattle.bylayout.specs.ByLayout.{smallPattern, magnitudeBy, noN
 use super::Unpacked;
 use layouts::Layout;
 use patterns::digits_of;
-use patterns::high_part;
 use patterns::magnitude_of;
-use patterns::moved_up;
 use patterns::with_sign;
+use places::high_part;
+use places::moved_up;
 use std::num::wrapping_add_u64;
 
 // The magnitude pattern of infinity.

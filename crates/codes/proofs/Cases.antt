@@ -1,4 +1,4 @@
--- Closed cases that hold the definitions to document 01 and to the published vectors: antt computes both sides. A definition
+-- Closed cases that hold the definitions to document 01 and to rows of vectors/stdin: antt computes both sides. A definition
 -- changed to give another answer at one of these fails here, whatever else is still provable. Assumes nothing.
 use mathlib.Core.Bool.{true, false}
 use mathlib.Core.List.{[], _∷_, map}
@@ -18,7 +18,7 @@ use Rattle.codes.specs.Calls.{packed, unpacked, packOne, unpackOne}
 
 -- ---- binary16, with subnormals
 
--- document 01's 1, 65504, infinity, 2^-24, minus zero, and 2^-24 and a half, which it lacks; then minus 1, a NaN of either sign,
+-- document 01's 1, 65504, infinity, 2^-24, minus zero, and one and a half times 2^-24, which it lacks; then minus 1, a NaN of either sign,
 -- and a number with a digit too many
 binary16-packed : map (packOne (format 11 15 true))
     (0x3FF0_0000_0000_0000

@@ -12,7 +12,7 @@ use Rattle.laws.proofs.Digits.{size-first}
 use Rattle.laws.proofs.Orders.{below-or-not}
 use Rattle.laws.proofs.Scales.{zeros-add}
 use Rattle.patterns.specs.Patterns.{val, ex, sig, pat}
-use Rattle.patterns.specs.Places.{movedUp}
+use Rattle.places.specs.Places.{movedUp}
 use Rattle.patterns.proofs.Values.{val-product, val-small, pat-val, pat-at, digits-subnormal}
 use Rattle.grid.specs.declared.Format.{Format}
 use Rattle.grid.specs.Formats.{InRange, emin, smallestNormal}

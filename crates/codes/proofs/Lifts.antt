@@ -9,7 +9,7 @@ use lib.Dec.{leb}
 use lib.Pow.{pow-add, pow-pos, field, shl-exact, shl-shr}
 use Rattle.laws.proofs.Scales.{leb-scales}
 use Rattle.patterns.specs.Patterns.{sign, mag, withSign}
-use Rattle.patterns.specs.Places.{high, movedUp}
+use Rattle.places.specs.Places.{high, movedUp}
 use Rattle.grid.specs.declared.Format.{Format}
 use Rattle.layouts.specs.Fields.{HasCode, width, negative}
 use Rattle.layouts.specs.Layouts.{layout}

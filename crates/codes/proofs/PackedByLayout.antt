@@ -15,7 +15,7 @@ use Rattle.laws.proofs.Tests.{and-asked}
 use Rattle.patterns.specs.declared.Kind.{Kind}
 use Rattle.patterns.specs.declared.Kind.the-variants.{Zero, Finite, Infinity, NaN}
 use Rattle.patterns.specs.Patterns.{sign, mag, kindOf, val, ex, sig, digitsOf, pat}
-use Rattle.patterns.specs.Places.{high, low}
+use Rattle.places.specs.Places.{high, low}
 use Rattle.patterns.proofs.Values.{val-product, digits-normal, pattern-below}
 use Rattle.patterns.proofs.Powers.{pat-power}
 use Rattle.grid.specs.declared.Format.{Format}

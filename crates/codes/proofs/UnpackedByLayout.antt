@@ -10,7 +10,7 @@ use lib.Pow.{pow-pos, pow-mono, suc-ones}
 use borrow.Author.Tests.{lt-ltb, le-ltb, leb-false, ne-eqb}
 use Rattle.laws.proofs.Orders.{below-or-not}
 use Rattle.patterns.specs.Patterns.{mag, withSign, infinity, pat}
-use Rattle.patterns.specs.Places.{movedUp}
+use Rattle.places.specs.Places.{movedUp}
 use Rattle.grid.specs.declared.Format.{Format}
 use Rattle.grid.specs.Formats.{emin, zetaExp, smallestNormal}
 use Rattle.grid.proofs.Steps.{zeta-sub, zeta-not-above}

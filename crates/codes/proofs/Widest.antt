@@ -60,8 +60,8 @@ module _ (f : Format) (p-is : f .p ≡ 53) (emax-is : f .emax ≡ 1023) (kept : 
           magnitude-number f widest n (subst (λ (k : ℕ). n < k) (sym widest-infinity) below) ∙ ap pat (widest-worth n) ∙ pat-val n
 
   module _ (x : ℕ) (fits : x < 2 ^ 64) (number : kindOf x ≡ NaN → ⊥) where
-    pub widest-pattern-is-code : unpackOne f x ≡ asPattern x
-    widest-pattern-is-code =
+    pub widest-unpacks : unpackOne f x ≡ asPattern x
+    widest-unpacks =
         let below : mag x < 2 ^ (width f - 1) =
         subst (λ (k : ℕ). mag x < 2 ^ (k - 1)) (sym widest-width) (magnitude-below x (mag x) refl) in
         let whole : coded f (sign x) (mag x) ≡ x =
@@ -70,5 +70,5 @@ module _ (f : Format) (p-is : f .p ≡ 53) (emax-is : f .emax ≡ 1023) (kept : 
         ∙ parts-unpack f widest (mag x) below (inl kept) (sign x)
         ∙ ap asPattern (ap (signed (sign x)) (widest-magnitude (mag x) (number-not-above x number)) ∙ pattern-signed x fits)
 
-    pub widest-code-is-pattern : packOne f x ≡ asCode x
-    widest-code-is-pattern = unpack-pack f x x widest-pattern-is-code number
+    pub widest-packs : packOne f x ≡ asCode x
+    widest-packs = unpack-pack f x x widest-unpacks number

@@ -1,6 +1,7 @@
 -- lo and hi, the two candidates that a rounding chooses from (document 01, "Rounding one pattern"): what they are, as
 -- properties, and how they are computed. The laws `lo-is-lo` and `hi-is-hi` say that below T the computed ones have the
--- properties; from T on they mean nothing, and only the overflow column counts. Units of 2^-1074. Assumes nothing.
+-- properties; from T on they mean nothing, and only the overflow column counts. And the test `held`, whether a magnitude is a number
+-- of the format. Units of 2^-1074. Assumes nothing.
 use mathlib.Core.Bool.{Bool, _&&_}
 use Prim.Native.Nat.{ℕ, _+_, _*_, _/_, _≤_, _<_}
 use lib.Dec.{ltb, eqb}

@@ -1,4 +1,4 @@
-// A format's settings and the patterns of its landmarks.
+// A format's settings, the patterns of its landmarks and the exponent of zeta.
 ghost use mathlib.Core.Path.{_≡_};
 ghost use Rattle.grid.specs.Formats.{precisionFits, exponentFits, inRange, smallestNormal, zetaExp, xmax, T, patternIn, exponentIn};
 use super::Format;

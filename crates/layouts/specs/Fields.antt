@@ -16,7 +16,7 @@ be f = size (f .emax + 1)
 unfoldable pub hasCode : Format → Bool
 hasCode f = eqb (f .emax + 1) (2 ^ (be f - 1))
 
--- the same, as what a law may lean on: the settings are in range, and emax + 1 is some power of two
+-- all that is asked of a format, as what a law may lean on: the settings are in range, and emax + 1 is some power of two
 pub record HasCode (f : Format) : Type 0 where
   pub range : InRange f
   pub digits : ℕ

@@ -16,7 +16,7 @@ pub struct Layout {
     pub last: u64,
     // how many fraction bits binary64 has more: 53 - p
     pub cut: u64,
-    // the exponent of zeta
+    // the exponent of zeta, counted from 2^-1074
     pub bottom: u64,
     // the smallest normal number
     pub normal: u64,

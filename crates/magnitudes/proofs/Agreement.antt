@@ -13,7 +13,7 @@ use borrow.Author.Tests.{lt-ltb, le-ltb}
 use Rattle.laws.proofs.Multiples.{clears-carry}
 use Rattle.laws.proofs.Orders.{below-or-not}
 use Rattle.patterns.specs.Patterns.{infinity, val, ex, sig, digitsOf, pat, Short}
-use Rattle.patterns.specs.Places.{high}
+use Rattle.places.specs.Places.{high}
 use Rattle.patterns.proofs.Values.{val-small, val-pat, pat-val, pattern-below}
 use Rattle.grid.specs.declared.Format.{Format}
 use Rattle.grid.specs.Formats.{InRange, emin, zetaExp, zeta, stepExp, xmax, T}

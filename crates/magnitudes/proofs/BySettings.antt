@@ -12,7 +12,7 @@ use lib.Pow.{pow-pos, pow-mono, shr-le}
 use borrow.Author.Tests.{lt-ltb, le-ltb}
 use Rattle.laws.proofs.Words.{one-shifted}
 use Rattle.patterns.specs.Patterns.{sign, mag, infinity, ex, sig, digitsOf}
-use Rattle.patterns.specs.Places.{high}
+use Rattle.places.specs.Places.{high}
 use Rattle.magnitudes.specs.declared.Mode.{Mode}
 use Rattle.magnitudes.specs.declared.Settings.{Settings}
 use Rattle.magnitudes.specs.Modes.{overflows}

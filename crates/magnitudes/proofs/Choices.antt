@@ -11,7 +11,7 @@ use lib.Pow.{pow-pos, pow-mono, shr-le, shr-shr}
 use borrow.Author.Tests.{lt-ltb, le-ltb, le-leb, lt-leb, eq-eqb, ne-eqb}
 use Rattle.laws.proofs.Orders.{below-or-not, leb-alike}
 use Rattle.laws.proofs.Scales.{scale-div, leb-scales, ltb-scales, eqb-scales}
-use Rattle.patterns.specs.Places.{high}
+use Rattle.places.specs.Places.{high}
 use Rattle.magnitudes.specs.declared.Mode.{Mode}
 use Rattle.magnitudes.specs.declared.Mode.the-variants.{TiesToEven, TiesToZero, TiesAway, TowardZero, TowardPlus, TowardMinus, ToOdd, Stochastic, EvenChance}
 use Rattle.magnitudes.specs.Modes.{ModeFits, even, odd, K, u, takesHi}

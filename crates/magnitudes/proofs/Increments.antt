@@ -9,7 +9,7 @@ use lib.Dec.{eqb}
 use lib.Pow.{pow-add, pow-pos, shl-exact, shl-shr}
 use Rattle.laws.proofs.Scales.{scale-div}
 use Rattle.laws.proofs.Words.{one-shifted}
-use Rattle.patterns.specs.Places.{high, low}
+use Rattle.places.specs.Places.{high, low}
 use Rattle.magnitudes.specs.declared.Mode.{Mode}
 use Rattle.magnitudes.specs.declared.Mode.the-variants.{TiesToEven, TiesToZero, TiesAway, TowardZero, TowardPlus, TowardMinus, ToOdd, Stochastic, EvenChance}
 use Rattle.magnitudes.specs.Modes.{u}

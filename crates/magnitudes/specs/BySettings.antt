@@ -5,7 +5,7 @@ use mathlib.Core.Bool.{Bool, cond}
 use Prim.Native.Nat.{ℕ, _+_, _-_, _*_, _^_, min, max}
 use lib.Dec.{leb, ltb}
 use Rattle.patterns.specs.Patterns.{infinity, ex, sig, digitsOf, pat}
-use Rattle.patterns.specs.Places.{high}
+use Rattle.places.specs.Places.{high}
 use Rattle.grid.specs.declared.Format.{Format}
 use Rattle.grid.specs.Formats.{emin, zetaExp, zeta, xmax, T}
 use Rattle.magnitudes.specs.declared.Mode.{Mode}

@@ -10,10 +10,10 @@ use super::modes::increment_of;
 use super::modes::overflows_to_infinity;
 use patterns::digits_of;
 use patterns::exponent_of;
-use patterns::high_part;
 use patterns::magnitude_of;
 use patterns::sign_of;
 use patterns::significand_of;
+use places::high_part;
 
 // The magnitude pattern of infinity.
 const INFINITY: u64 = 0x7FF0_0000_0000_0000;

@@ -6,8 +6,8 @@ ghost use Prim.Native.Nat.{_*_, _/_, _^_, _<_};
 ghost use Rattle.magnitudes.specs.Modes.{modeOf, overflows};
 ghost use Rattle.magnitudes.specs.Increments.{increment};
 use super::Mode;
-use patterns::high_part;
-use patterns::low_part;
+use places::high_part;
+use places::low_part;
 
 // The mode with this number. Numbers above 8 are for the caller to refuse; here they are 8.
 pub fn mode_of(mode: u64, r: u64) -> Mode

@@ -10,9 +10,6 @@ use Rattle.patterns.proofs.binary64.exponent_of.Reads as exponent-of
 use Rattle.patterns.proofs.binary64.significand_of.Reads as significand-of
 use Rattle.patterns.proofs.binary64.digits_of.Reads as digits-of
 use Rattle.patterns.proofs.binary64.power_pattern.Reads as power-pattern
-use Rattle.patterns.proofs.places.high_part.Reads as high-part
-use Rattle.patterns.proofs.places.low_part.Reads as low-part
-use Rattle.patterns.proofs.places.moved_up.Reads as moved-up
 
 pub sign-of-unique : OneAnswer sign-of.Post
 sign-of-unique κs a y z s t p q = p ∙ sym q
@@ -37,12 +34,3 @@ digits-of-unique κs a y z s t p q = p ∙ sym q
 
 pub power-pattern-unique : OneAnswer power-pattern.Post
 power-pattern-unique κs a y z s t p q = p ∙ sym q
-
-pub high-part-unique : OneAnswer high-part.Post
-high-part-unique κs a y z s t p q = p ∙ sym q
-
-pub low-part-unique : OneAnswer low-part.Post
-low-part-unique κs a y z s t p q = p ∙ sym q
-
-pub moved-up-unique : OneAnswer moved-up.Post
-moved-up-unique κs a y z s t p q = p ∙ sym q

@@ -1,7 +1,6 @@
-// Reading binary64 patterns, and cutting a number at a place. The contracts cite the definitions in
+// Reading binary64 patterns. The contracts cite the definitions in
 // specs/; start with specs/Lib.antt. Every function here answers for all inputs.
 mod binary64;
-mod places;
 
 pub use binary64::digits_of;
 pub use binary64::exponent_of;
@@ -11,9 +10,6 @@ pub use binary64::power_pattern;
 pub use binary64::sign_of;
 pub use binary64::significand_of;
 pub use binary64::with_sign;
-pub use places::high_part;
-pub use places::low_part;
-pub use places::moved_up;
 
 // What a binary64 pattern is, whatever its sign. Finite leaves out zero.
 pub enum Kind {

@@ -8,9 +8,9 @@ use arrays::round_array;
 use grid::Format;
 use known::known_format;
 use patterns::exponent_of;
-use patterns::high_part;
 use patterns::magnitude_of;
 use patterns::significand_of;
+use places::high_part;
 use std::num::wrapping_add_u64;
 use std::num::wrapping_sub_u64;
 

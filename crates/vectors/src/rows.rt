@@ -1,5 +1,5 @@
 // A row, read byte after byte.
-use patterns::moved_up;
+use places::moved_up;
 use std::num::wrapping_add_u64;
 
 const BLANK: u8 = 32;

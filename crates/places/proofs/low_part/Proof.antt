@@ -1,12 +1,12 @@
--- `patterns::places::low_part` meets its contract. Assumes nothing.
+-- `places::low_part` meets its contract. Assumes nothing.
 use borrow.Author.Needs.{needs}
 use native.Mathlib.Omega.{arith}
 use mathlib.Core.Path.{sym}
 use lib.Pow.{pow-pos}
 use Rattle.laws.proofs.Words.{one-shifted, low-past, low-masked}
-use Rattle.patterns.specs.Places.{low}
-use Rattle.patterns.proofs.places.low_part.Statement.{statement}
-use Rattle.patterns.proofs.places.low_part.Tie as tie
+use Rattle.places.specs.Places.{low}
+use Rattle.places.proofs.low_part.Statement.{statement}
+use Rattle.places.proofs.low_part.Tie as tie
 
 shl-result : tie.Need-shl-result
 shl-result c = search needs

@@ -1,10 +1,10 @@
--- `patterns::places::moved_up` meets its contract. Assumes nothing.
+-- `places::moved_up` meets its contract. Assumes nothing.
 use borrow.Author.Needs.{needs}
 use mathlib.Core.Path.{refl, sym}
 use Rattle.laws.proofs.Words.{moved-past}
-use Rattle.patterns.specs.Places.{movedUp}
-use Rattle.patterns.proofs.places.moved_up.Statement.{statement}
-use Rattle.patterns.proofs.places.moved_up.Tie as tie
+use Rattle.places.specs.Places.{movedUp}
+use Rattle.places.proofs.moved_up.Statement.{statement}
+use Rattle.places.proofs.moved_up.Tie as tie
 
 returns : tie.Need-returns
 unfolding movedUp

@@ -1,10 +1,10 @@
--- `patterns::places::high_part` meets its contract. Assumes nothing.
+-- `places::high_part` meets its contract. Assumes nothing.
 use borrow.Author.Needs.{needs}
 use mathlib.Core.Path.{refl, sym}
 use Rattle.laws.proofs.Words.{high-past}
-use Rattle.patterns.specs.Places.{high}
-use Rattle.patterns.proofs.places.high_part.Statement.{statement}
-use Rattle.patterns.proofs.places.high_part.Tie as tie
+use Rattle.places.specs.Places.{high}
+use Rattle.places.proofs.high_part.Statement.{statement}
+use Rattle.places.proofs.high_part.Tie as tie
 
 shr-result : tie.Need-shr-result
 shr-result c = search needs

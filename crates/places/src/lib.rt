@@ -1,7 +1,8 @@
-// A number cut in two at a place, and a number moved up. Any place may be asked for: past the last
-// digit nothing is high, and nothing stays of what is moved past the word.
+// Numbers cut in two at a place, and numbers moved up in their word. Any place may be asked for: past the
+// last digit nothing is high, and nothing stays of what is moved past the word. The contracts cite the
+// definitions in specs/Places.antt. Every function here answers for all inputs.
 ghost use mathlib.Core.Path.{_≡_};
-ghost use Rattle.patterns.specs.Places.{high, low, movedUp};
+ghost use Rattle.places.specs.Places.{high, low, movedUp};
 
 // The digits of n from place d on.
 pub fn high_part(n: u64, d: u64) -> u64

@@ -1,0 +1,2 @@
+-- That every promise of this crate leaves one answer.
+pub mod Unique
