@@ -12,11 +12,8 @@ mod text;
 fn main() {
     numbers::formats();
     numbers::modes();
-    answers::near_one();
-    answers::near_the_top();
-    answers::near_zeta();
-    answers::without_subnormals();
-    answers::source_subnormals();
+    answers::in_binary16();
+    answers::of_subnormals();
     answers::ends_of_the_range();
     answers::unaltered();
     answers::job();
