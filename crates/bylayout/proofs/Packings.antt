@@ -10,9 +10,8 @@ use Rattle.patterns.specs.declared.Kind.the-variants.{Zero, Finite, Infinity, N
 use Rattle.patterns.specs.Patterns.{mag, withSign, kindOf, sig}
 use Rattle.places.specs.Places.{high, low, movedUp}
 use Rattle.layouts.specs.declared.Layout.{Layout}
-use Rattle.bylayout.specs.declared.Packed.{Packed}
 use Rattle.bylayout.specs.Answers.{asCode, noCode}
-use Rattle.bylayout.specs.ByLayout.{depth, heldBy, finiteFields, codeBy, finiteBy, packedAs, packedBy}
+use Rattle.bylayout.specs.ByLayout.{depth, heldBy, finiteFields, codeBy, hasAs, fieldsAs, packedBy}
 
 -- ---- a finite magnitude: whether it is held, and its fields
 
@@ -41,6 +40,41 @@ module _ (l : Layout) (m : ℕ) where
     unfolding finiteFields
     fields-normal h cut y sum = simp (le-ltb m (l .normal) reached, sum, cut)
 
+-- ---- what the pattern is
+
+module _ (l : Layout) (k : Kind) (m : ℕ) where
+  pub has-zero : k ≡ Zero → true ≡ hasAs l k m
+  unfolding hasAs
+  has-zero is = simp is
+
+  pub has-finite : k ≡ Finite → (b : Bool) → b ≡ heldBy l m → b ≡ hasAs l k m
+  unfolding hasAs
+  has-finite is b tested = simp (is, tested)
+
+  pub has-infinity : k ≡ Infinity → true ≡ hasAs l k m
+  unfolding hasAs
+  has-infinity is = simp is
+
+  pub has-nan : k ≡ NaN → true ≡ hasAs l k m
+  unfolding hasAs
+  has-nan is = simp is
+
+  pub fields-zero : k ≡ Zero → 0 ≡ fieldsAs l k m
+  unfolding fieldsAs
+  fields-zero is = simp is
+
+  pub fields-finite : k ≡ Finite → (n : ℕ) → n ≡ finiteFields l m → n ≡ fieldsAs l k m
+  unfolding fieldsAs
+  fields-finite is n e = simp (is, e)
+
+  pub fields-infinity : k ≡ Infinity → l .infinity ≡ fieldsAs l k m
+  unfolding fieldsAs
+  fields-infinity is = simp is
+
+  pub fields-nan : k ≡ NaN → l .nan ≡ fieldsAs l k m
+  unfolding fieldsAs
+  fields-nan is = simp is
+
 -- ---- the code of a pattern
 
 module _ (l : Layout) (x : ℕ) where
@@ -49,30 +83,11 @@ module _ (l : Layout) (x : ℕ) where
       → c ≡ codeBy l x n
   code-is n w moved z put c cut = simp (cut, put, moved)
 
-  -- a finite pattern's, or refusal 8
-  module _ (m : ℕ) (unsigned : m ≡ mag x) (b : Bool) (tested : b ≡ heldBy l m) where
-    pub finite-packed : b ≡ true → (n : ℕ) → n ≡ finiteFields l m → (c : ℕ) → c ≡ codeBy l x n → asCode c ≡ finiteBy l x
-    unfolding finiteBy
-    finite-packed held n fields c is = simp (← unsigned, ← tested, held, is, fields)
+  module _ (m : ℕ) (unsigned : m ≡ mag x) (k : Kind) (e : k ≡ kindOf x) (b : Bool) (tested : b ≡ hasAs l k m) where
+    pub packed-code : b ≡ true → (n : ℕ) → n ≡ fieldsAs l k m → (c : ℕ) → c ≡ codeBy l x n → asCode c ≡ packedBy l x
+    unfolding packedBy
+    packed-code has n fields c is = simp (← unsigned, ← e, ← tested, has, is, fields)
 
-    pub finite-refused : b ≡ false → noCode 8 ≡ finiteBy l x
-    unfolding finiteBy
-    finite-refused lacks = simp (← unsigned, ← tested, lacks)
-
-  -- by what the pattern is
-  module _ (k : Kind) (e : k ≡ kindOf x) where
-    pub zero-packed : k ≡ Zero → (c : ℕ) → c ≡ codeBy l x 0 → asCode c ≡ packedBy l x
-    unfolding packedBy packedAs
-    zero-packed is c put = simp (← e, is, put)
-
-    pub finite-answered : k ≡ Finite → (y : Packed) → y ≡ finiteBy l x → y ≡ packedBy l x
-    unfolding packedBy packedAs
-    finite-answered is y goes = simp (← e, is, goes)
-
-    pub infinity-packed : k ≡ Infinity → (c : ℕ) → c ≡ codeBy l x (l .infinity) → asCode c ≡ packedBy l x
-    unfolding packedBy packedAs
-    infinity-packed is c put = simp (← e, is, put)
-
-    pub nan-packed : k ≡ NaN → (c : ℕ) → c ≡ codeBy l x (l .nan) → asCode c ≡ packedBy l x
-    unfolding packedBy packedAs
-    nan-packed is c put = simp (← e, is, put)
+    pub packed-refused : b ≡ false → noCode 8 ≡ packedBy l x
+    unfolding packedBy
+    packed-refused lacks = simp (← unsigned, ← e, ← tested, lacks)

@@ -1,7 +1,7 @@
 -- Packing and unpacking as they are computed, from a layout that is worked out once for a format. That the answers are those that
 -- are meant is said by the laws `packed-by-layout` and `unpacked-by-layout`. For layouts of any other numbers this is only what the
 -- code does. `m` is a magnitude pattern, `n` the exponent and fraction fields of a code as one number. Assumes nothing.
-use mathlib.Core.Bool.{Bool, cond, not, _&&_}
+use mathlib.Core.Bool.{Bool, true, cond, not, _&&_}
 use Prim.Native.Nat.{ℕ, _+_, _-_, _%_, _^_}
 use lib.Dec.{ltb, eqb}
 use Rattle.patterns.specs.declared.Kind.{Kind}
@@ -32,19 +32,22 @@ finiteFields l m = cond (ltb m (l .normal)) (high (sig m) (depth (l .bottom) m))
 abbrev pub codeBy : Layout → ℕ → ℕ → ℕ
 codeBy l x n = high (withSign x (movedUp n (l .spare))) (l .spare)
 
--- a finite pattern's code, or refusal 8
-unfoldable pub finiteBy : Layout → ℕ → Packed
-finiteBy l x = cond (heldBy l (mag x)) (asCode (codeBy l x (finiteFields l (mag x)))) (noCode 8)
+-- whether the format has what the pattern is, and the fields of it
+unfoldable pub hasAs : Layout → Kind → ℕ → Bool
+hasAs l Zero m = true
+hasAs l Finite m = heldBy l m
+hasAs l Infinity m = true
+hasAs l NaN m = true
 
--- by what the pattern is
-unfoldable pub packedAs : Layout → Kind → ℕ → Packed
-packedAs l Zero x = asCode (codeBy l x 0)
-packedAs l Finite x = finiteBy l x
-packedAs l Infinity x = asCode (codeBy l x (l .infinity))
-packedAs l NaN x = asCode (codeBy l x (l .nan))
+unfoldable pub fieldsAs : Layout → Kind → ℕ → ℕ
+fieldsAs l Zero m = 0
+fieldsAs l Finite m = finiteFields l m
+fieldsAs l Infinity m = l .infinity
+fieldsAs l NaN m = l .nan
 
+-- a pattern's code, or refusal 8
 unfoldable pub packedBy : Layout → ℕ → Packed
-packedBy l x = packedAs l (kindOf x) x
+packedBy l x = cond (hasAs l (kindOf x) (mag x)) (asCode (codeBy l x (fieldsAs l (kindOf x) (mag x)))) (noCode 8)
 
 -- ---- unpacking
 

@@ -1,7 +1,7 @@
 // A pattern's code, by a layout. `x` is a pattern, `m` its magnitude, `n` the exponent and fraction
 // fields of a code as one number.
 ghost use mathlib.Core.Path.{_≡_};
-ghost use Rattle.bylayout.specs.ByLayout.{depth, heldBy, finiteFields, codeBy, finiteBy, packedBy};
+ghost use Rattle.bylayout.specs.ByLayout.{depth, heldBy, finiteFields, codeBy, hasAs, fieldsAs, packedBy};
 use super::Packed;
 use layouts::Layout;
 use patterns::Kind;
@@ -55,37 +55,42 @@ fn code_of(l: Layout, x: u64, n: u64) -> u64
     high_part(with_sign(x, moved_up(n, l.spare)), l.spare)
 }
 
-// A finite pattern's code, or refusal 8.
-fn pack_finite(l: Layout, x: u64) -> Packed
-    ensures { λ y. ⌜ y ≡ finiteBy l x ⌝ }
+// Whether the format has what the pattern is: a finite number is asked for, and zeros, infinities and
+// NaNs are in every format.
+fn has(l: Layout, kind: Kind, m: u64) -> bool
+    ensures { λ y. ⌜ y ≡ hasAs l kind m ⌝ }
 {
-    let m = magnitude_of(x);
-    if holds(l, m) {
-        return Packed {
-            number: 0,
-            code: code_of(l, x, finite_fields(l, m)),
-        };
+    match kind {
+        Kind::Zero => true,
+        Kind::Finite => holds(l, m),
+        Kind::Infinity => true,
+        Kind::NaN => true,
     }
-    Packed { number: 8, code: 0 }
+}
+
+// The fields by what the pattern is.
+fn fields_of(l: Layout, kind: Kind, m: u64) -> u64
+    ensures { λ y. ⌜ y ≡ fieldsAs l kind m ⌝ }
+{
+    match kind {
+        Kind::Zero => 0,
+        Kind::Finite => finite_fields(l, m),
+        Kind::Infinity => l.infinity,
+        Kind::NaN => l.nan,
+    }
 }
 
 // The pattern x packed by the layout, or refusal 8.
 pub fn pack_by(l: Layout, x: u64) -> Packed
     ensures { λ y. ⌜ y ≡ packedBy l x ⌝ }
 {
-    match kind_of(x) {
-        Kind::Zero => Packed {
+    let kind = kind_of(x);
+    let m = magnitude_of(x);
+    if has(l, kind, m) {
+        return Packed {
             number: 0,
-            code: code_of(l, x, 0),
-        },
-        Kind::Finite => pack_finite(l, x),
-        Kind::Infinity => Packed {
-            number: 0,
-            code: code_of(l, x, l.infinity),
-        },
-        Kind::NaN => Packed {
-            number: 0,
-            code: code_of(l, x, l.nan),
-        },
+            code: code_of(l, x, fields_of(l, kind, m)),
+        };
     }
+    Packed { number: 8, code: 0 }
 }

@@ -9,7 +9,7 @@ use Rattle.grid.specs.declared.Format.{Format}
 use Rattle.layouts.specs.declared.Layout.{Layout}
 use Rattle.layouts.specs.declared.Laid.{Laid}
 use Rattle.layouts.specs.Fields.{HasCode}
-use Rattle.layouts.specs.Layouts.{layout, laid}
+use Rattle.layouts.specs.Layouts.{laid}
 use Rattle.layouts.proofs.Refusals.{accepted-has-code, laid-number, laid-layout}
 use Rattle.bylayout.specs.declared.Packed.{Packed}
 use Rattle.bylayout.specs.declared.Unpacked.{Unpacked}

@@ -20,7 +20,7 @@ use Rattle.grid.proofs.Steps.{emin-normal}
 use Rattle.grid.proofs.Places.{smallest-normal-at}
 use Rattle.bylayout.specs.ByLayout.{smallPattern}
 use Rattle.bylayout.proofs.Unpackings.{small-zero, small-short, small-full}
-use Rattle.codes.proofs.Worth.{worthOf, worth-by-pattern}
+use Rattle.codes.proofs.Worth.{worthOf, first-moved, worth-by-pattern}
 
 -- ---- below the normal range
 
@@ -92,14 +92,8 @@ pattern-raised m k normal =
     ∙ pat-at (ex m + k) (sig m) (omega arith) (inr (omega arith))
     ∙ omega arith
 
--- with the zeros that binary64 has behind a fraction, the first fields of the normal range are the first of binary64's,
-pub first-moved : (f : Format) → InRange f → 2 ^ (f .p - 1) * 2 ^ (53 - f .p) ≡ 2 ^ 52
-first-moved f r =
-    let place : f .p - 1 + (53 - f .p) ≡ 52 = omega arith in
-    sym (pow-add 2 (f .p - 1) (53 - f .p)) ∙ ap (λ (k : ℕ). 2 ^ k) place
-
 module _ (f : Format) (r : InRange f) (n : ℕ) (normal : 2 ^ (f .p - 1) ≤ n) where
-  -- and all others are as far above these
+  -- fields with binary64's zeros behind them are as far above its first ones
   fields-moved : n * 2 ^ (53 - f .p) ≡ (n - 2 ^ (f .p - 1)) * 2 ^ (53 - f .p) + 2 ^ 52
   fields-moved =
       let first = 2 ^ (f .p - 1) in

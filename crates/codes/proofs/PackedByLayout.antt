@@ -30,14 +30,14 @@ use Rattle.layouts.proofs.Fields.{width-fits}
 use Rattle.bylayout.specs.declared.Packed.{Packed}
 use Rattle.codes.specs.Packing.{fieldsOf, infinityFields, nanFields, fieldsBy, codeOf, hasBy, inFormat}
 use Rattle.bylayout.specs.Answers.{asCode, noCode}
-use Rattle.codes.specs.Calls.{packed}
-use Rattle.bylayout.specs.ByLayout.{depth, heldBy, finiteFields, codeBy, finiteBy, packedAs, packedBy}
+use Rattle.bylayout.specs.ByLayout.{depth, heldBy, finiteFields, codeBy, hasAs, fieldsAs, packedBy}
 use Rattle.bylayout.proofs.Packings.{held-small, fields-small, fields-normal}
+use Rattle.codes.specs.Calls.{packed}
 use Rattle.codes.proofs.Lifts.{code-by}
 use Rattle.codes.proofs.Numbers.{fields-below}
 use Rattle.codes.proofs.Magnitudes.{infinity-fields-fit, nan-fields-fit}
 use Rattle.codes.proofs.Parts.{coded}
-use Rattle.codes.proofs.FieldPatterns.{first-moved}
+use Rattle.codes.proofs.Worth.{first-moved}
 
 module _ (f : Format) (r : InRange f) (m : ℕ) where
   -- the places below the first fields of the normal range
@@ -179,9 +179,13 @@ module _ (f : Format) (h : HasCode f) where
     abbrev a : ℕ
     a = val (mag x)
 
+    -- what the code answers, by what the pattern is
+    abbrev byKind : Kind → Packed
+    byKind k = cond (hasAs (layout f) k (mag x)) (asCode (codeBy (layout f) x (fieldsAs (layout f) k (mag x)))) (noCode 8)
+
     -- a finite pattern is packed or refused,
-    finite-by-layout : (b : Bool) → held f a ≡ b → finiteBy (layout f) x ≡ cond b (answer (fieldsOf f a)) (noCode 8)
-    unfolding finiteBy
+    finite-by-layout : (b : Bool) → held f a ≡ b → byKind Finite ≡ cond b (answer (fieldsOf f a)) (noCode 8)
+    unfolding hasAs fieldsAs
     finite-by-layout b tested = ap by-test (held-by-layout f (h .range) (mag x) ∙ tested) ∙ go b tested
       where
         by-test : Bool → Packed
@@ -194,8 +198,8 @@ module _ (f : Format) (h : HasCode f) where
         go false t = refl
 
     -- and any other is packed
-    kind-by-layout : (k : Kind) → packedAs (layout f) k x ≡ cond (hasBy f k a) (answer (fieldsBy f k a)) (noCode 8)
-    unfolding layout packedAs hasBy fieldsBy infinityFields nanFields
+    kind-by-layout : (k : Kind) → byKind k ≡ cond (hasBy f k a) (answer (fieldsBy f k a)) (noCode 8)
+    unfolding layout hasAs fieldsAs hasBy fieldsBy infinityFields nanFields
     kind-by-layout Zero = ap asCode (code-by f h x 0 (pow-pos (width f - 1)))
     kind-by-layout Finite = finite-by-layout (held f a) refl
     kind-by-layout Infinity = ap asCode (code-by f h x (infinityFields f) infinity-below)

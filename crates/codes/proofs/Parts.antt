@@ -1,14 +1,15 @@
 -- A code as its sign and its fields n, and the pattern as its sign and its magnitude. Assumes nothing.
 use mathlib.Core.Bool.{Bool, true, false, cond, not, _&&_, and-false, false≢true}
 use mathlib.Core.Path.{_≡_, refl, sym, ap, ap₂, _∙_}
-use mathlib.Core.Logic.{_⊎_, inl, inr}
-use Prim.Native.Nat.{ℕ, _+_, _-_, _*_, _/_, _%_, _^_, _≤_, _<_}
+use mathlib.Core.Logic.{inl, inr}
+use Prim.Native.Nat.{ℕ, _+_, _-_, _*_, _/_, _%_, _^_, _<_}
 use native.Mathlib.Nat.{ne-of-gt, zero-mod, div-eq-of-lt, div-add-mod'}
 use native.Mathlib.Omega.{arith}
-use lib.Dec.{eqb, leb}
-use borrow.Author.Tests.{eq-eqb, ne-eqb, eqb-true, eqb-false, lt-leb, le-leb}
-use Rattle.laws.proofs.Orders.{below-or-not, le-of-not-lt}
-use Rattle.patterns.specs.Patterns.{sign, mag}
+use lib.Dec.{eqb}
+use borrow.Author.Tests.{eq-eqb, ne-eqb, eqb-true, eqb-false}
+use Rattle.laws.proofs.Orders.{le-of-not-lt}
+use Rattle.patterns.specs.Patterns.{sign}
+use Rattle.patterns.proofs.Signs.{signed}
 use Rattle.grid.specs.declared.Format.{Format}
 use Rattle.layouts.specs.Fields.{HasCode, width, negative, exponent, fraction}
 use Rattle.layouts.proofs.Splits.{exponent-is, fraction-is, parts-fit, parts-fields, parts-sign}
@@ -19,38 +20,6 @@ use Rattle.codes.specs.Calls.{unpackOne}
 use Rattle.codes.proofs.Numbers.{Number, exponent-some}
 use Rattle.codes.proofs.Magnitudes.{magnitudeFor, fieldsFor}
 use Rattle.codes.proofs.Answers.{number-unpacks}
-
--- ---- a pattern
-
--- of a sign and a magnitude
-abbrev pub signed : Bool → ℕ → ℕ
-signed b m = cond b (2 ^ 63 + m) m
-
-module _ (b : Bool) (m : ℕ) (fits : m < 2 ^ 63) where
-  pub signed-magnitude : mag (signed b m) ≡ m
-  unfolding mag
-  signed-magnitude = go b
-    where
-      go : (t : Bool) → signed t m % 2 ^ 63 ≡ m
-      go true = omega arith
-      go false = omega arith
-
-  pub signed-sign : sign (signed b m) ≡ b
-  unfolding sign
-  signed-sign = go b
-    where
-      go : (t : Bool) → leb (2 ^ 63) (signed t m) ≡ t
-      go true = le-leb (2 ^ 63) (2 ^ 63 + m) (omega arith)
-      go false = lt-leb (2 ^ 63) m fits
-
--- every pattern is of its own
-pub pattern-signed : (x : ℕ) → x < 2 ^ 64 → signed (sign x) (mag x) ≡ x
-unfolding sign mag
-pattern-signed x fits = go (below-or-not x (2 ^ 63))
-  where
-    go : (x < 2 ^ 63) ⊎ (2 ^ 63 ≤ x) → signed (sign x) (mag x) ≡ x
-    go (inl below) = ap (λ (t : Bool). signed t (x % 2 ^ 63)) (lt-leb (2 ^ 63) x below) ∙ omega arith
-    go (inr past) = ap (λ (t : Bool). signed t (x % 2 ^ 63)) (le-leb (2 ^ 63) x past) ∙ omega arith
 
 -- ---- a code
 

@@ -10,6 +10,7 @@ use Rattle.laws.proofs.Orders.{le-of-not-lt}
 use Rattle.patterns.specs.declared.Kind.the-variants.{NaN}
 use Rattle.patterns.specs.Patterns.{sign, mag, withSign, infinity, quietNaN, kindOf}
 use Rattle.patterns.proofs.PatternKinds.{number-not-above}
+use Rattle.patterns.proofs.Signs.{signed, signed-magnitude, signed-sign, pattern-signed}
 use Rattle.grid.specs.declared.Format.{Format}
 use Rattle.layouts.specs.Fields.{HasCode, width, negative}
 use Rattle.layouts.proofs.Splits.{parts-are-code}
@@ -23,7 +24,7 @@ use Rattle.codes.specs.Facts.{UnpackPack, PackUnpack, NaNPackUnpack, Ref
 use Rattle.codes.proofs.Numbers.{Number, row-below}
 use Rattle.codes.proofs.Magnitudes.{magnitudeFor, fieldsFor, infinity-fields-fit, nan-fields-above, nan-fields-fit, magnitude-nan, magnitude-fits, nan-fields, nan-has, stands-has, stands-fields, fields-most, fields-are-number, fields-stand}
 use Rattle.codes.proofs.Answers.{pack-has-code, refused-has-code, in-format-packs, not-in-format-refused, packs-in-format, packs-code, unpack-has-code, unpacks-fits, unpacks-number, unpacks-pattern}
-use Rattle.codes.proofs.Parts.{signed, signed-magnitude, signed-sign, pattern-signed, coded, code-parts, pattern-parts, passes-number, parts-unpack}
+use Rattle.codes.proofs.Parts.{coded, code-parts, pattern-parts, passes-number, parts-unpack}
 
 -- ---- a code that unpacks
 

@@ -10,6 +10,7 @@ use lib.Pow.{pow-pos, pow-mono, suc-ones}
 use borrow.Author.Tests.{lt-ltb, le-ltb, leb-false, ne-eqb}
 use Rattle.laws.proofs.Orders.{below-or-not}
 use Rattle.patterns.specs.Patterns.{mag, withSign, infinity, pat}
+use Rattle.patterns.proofs.Signs.{signed}
 use Rattle.places.specs.Places.{movedUp}
 use Rattle.grid.specs.declared.Format.{Format}
 use Rattle.grid.specs.Formats.{emin, zetaExp, smallestNormal}
@@ -28,7 +29,7 @@ use Rattle.codes.proofs.Lifts.{sign-in, fields-in}
 use Rattle.codes.proofs.Worth.{worthOf, worth-small}
 use Rattle.codes.proofs.Numbers.{Number, exponent-some, row-below}
 use Rattle.codes.proofs.Magnitudes.{magnitudeFor, magnitude-number, magnitude-infinity, magnitude-nan, magnitude-finite, magnitude-fits}
-use Rattle.codes.proofs.Parts.{signed, pattern-parts, passes-number}
+use Rattle.codes.proofs.Parts.{pattern-parts, passes-number}
 use Rattle.codes.proofs.FieldPatterns.{small-pattern-is, normal-pattern-is}
 
 module _ (f : Format) (h : HasCode f) where

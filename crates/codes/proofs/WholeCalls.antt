@@ -1,14 +1,14 @@
 -- The calls: the answer to one pattern and to one code, in the forms in which the code comes to them. Assumes nothing.
 use mathlib.Core.Bool.{Bool, false, cond}
 use mathlib.Core.Path.{_≡_, sym, ap, _∙_}
-use Prim.Native.Nat.{ℕ, _^_, _<_}
+use Prim.Native.Nat.{ℕ}
 use lib.Dec.{eqb}
 use borrow.Author.Tests.{eq-eqb, ne-eqb}
 use Rattle.grid.specs.declared.Format.{Format}
 use Rattle.layouts.specs.declared.Layout.{Layout}
 use Rattle.layouts.specs.declared.Laid.{Laid}
 use Rattle.layouts.specs.Calls.{formatRefusal}
-use Rattle.layouts.specs.Layouts.{layout, laid}
+use Rattle.layouts.specs.Layouts.{laid}
 use Rattle.layouts.proofs.Refusals.{accepted-has-code, laid-number, laid-layout}
 use Rattle.bylayout.specs.declared.Packed.{Packed}
 use Rattle.bylayout.specs.declared.Unpacked.{Unpacked}

@@ -9,7 +9,7 @@ use Rattle.patterns.specs.declared.Kind.the-variants.{NaN}
 use Rattle.patterns.specs.Patterns.{sign, mag, infinity, kindOf, val, pat}
 use Rattle.patterns.proofs.Values.{pat-val}
 use Rattle.patterns.proofs.PatternKinds.{number-not-above}
-use Rattle.patterns.proofs.Signs.{magnitude-below}
+use Rattle.patterns.proofs.Signs.{signed, pattern-signed, magnitude-below}
 use Rattle.grid.specs.declared.Format.{Format}
 use Rattle.grid.specs.Formats.{emin}
 use Rattle.layouts.specs.Fields.{HasCode, width}
@@ -19,7 +19,7 @@ use Rattle.bylayout.specs.Answers.{asCode, asPattern}
 use Rattle.codes.specs.Calls.{packOne, unpackOne}
 use Rattle.codes.proofs.Worth.{worthOf, worth-by-pattern}
 use Rattle.codes.proofs.Magnitudes.{magnitudeFor, magnitude-number, magnitude-infinity}
-use Rattle.codes.proofs.Parts.{signed, pattern-signed, coded, parts-unpack}
+use Rattle.codes.proofs.Parts.{coded, parts-unpack}
 use Rattle.codes.proofs.RoundTrips.{unpack-pack}
 
 module _ (f : Format) (p-is : f .p ≡ 53) (emax-is : f .emax ≡ 1023) (kept : f .sub ≡ true) where

@@ -22,6 +22,10 @@ module _ (f : Format) (r : InRange f) where
   fraction-and-zeros : f .p - 1 + (53 - f .p) ≡ 52
   fraction-and-zeros = omega arith
 
+  -- so that moved up by them the first fields of the normal range are the first of binary64's
+  pub first-moved : 2 ^ (f .p - 1) * 2 ^ (53 - f .p) ≡ 2 ^ 52
+  first-moved = sym (pow-add 2 (f .p - 1) (53 - f .p)) ∙ ap (λ (k : ℕ). 2 ^ k) fraction-and-zeros
+
   -- An exponent field and a fraction are worth what binary64's are, with the zeros behind the fraction, times the difference
   -- of the biases.
   same-fields : (e n : ℕ) → worth e (n * 2 ^ (53 - f .p)) * 2 ^ (emin f - 52) ≡ worthIn f e n
@@ -32,8 +36,7 @@ module _ (f : Format) (r : InRange f) where
   same-fields (suc e) n =
       let d = 53 - f .p in
       let place : d + e + (emin f - 52) ≡ suc e + 1074 - f .emax + 1 - f .p = omega (arith, emin-normal f r) in
-      let first : 2 ^ 52 ≡ 2 ^ (f .p - 1) * 2 ^ d = ap (λ (k : ℕ). 2 ^ k) (sym fraction-and-zeros) ∙ pow-add 2 (f .p - 1) d in
-      ap (λ (x : ℕ). (x + n * 2 ^ d) * 2 ^ e * 2 ^ (emin f - 52)) first
+      ap (λ (x : ℕ). (x + n * 2 ^ d) * 2 ^ e * 2 ^ (emin f - 52)) (sym first-moved)
       ∙ ap (λ (x : ℕ). x * 2 ^ e * 2 ^ (emin f - 52)) (sym (add-mul (2 ^ (f .p - 1)) n (2 ^ d)))
       ∙ ap (λ (x : ℕ). x * 2 ^ (emin f - 52)) (zeros-add (2 ^ (f .p - 1) + n) d e)
       ∙ zeros-add (2 ^ (f .p - 1) + n) (d + e) (emin f - 52)

@@ -4,11 +4,8 @@ ghost use Rattle.grid.specs.Formats.{precisionFits, exponentFits, inRang
 use super::Format;
 use patterns::power_pattern;
 
-// What a format out of range gets for the pattern of a landmark.
-const NO_PATTERN: u64 = 0;
-
-// And for an exponent.
-const NO_EXPONENT: u64 = 0;
+// What a format out of range gets for a pattern or an exponent.
+const NO_LANDMARK: u64 = 0;
 
 // Whether p is from 2 to 53.
 pub fn precision_fits(p: u64) -> bool
@@ -38,7 +35,7 @@ pub fn smallest_normal_pattern(f: Format) -> u64
     if in_range(f) {
         return power_pattern(1075 - f.emax);
     }
-    NO_PATTERN
+    NO_LANDMARK
 }
 
 // The exponent of zeta, counted from 2^-1074: p - 1 places below the smallest normal number's with
@@ -52,7 +49,7 @@ pub fn zeta_exponent(f: Format) -> u64
         }
         return 1075 - f.emax;
     }
-    NO_EXPONENT
+    NO_LANDMARK
 }
 
 // The pattern of T, the next candidate above the largest finite number; 0 for a format out of range.
@@ -62,7 +59,7 @@ pub fn top_pattern(f: Format) -> u64
     if in_range(f) {
         return power_pattern(1075 + f.emax);
     }
-    NO_PATTERN
+    NO_LANDMARK
 }
 
 // The pattern of the largest finite number, p ones: the pattern of T less one in the last of the p
@@ -73,5 +70,5 @@ pub fn xmax_pattern(f: Format) -> u64
     if in_range(f) {
         return top_pattern(f) - (1 << (53 - f.p));
     }
-    NO_PATTERN
+    NO_LANDMARK
 }

@@ -3,11 +3,15 @@ use mathlib.Core.Path.{_≡_, sym, ap, _∙_, subst}
 use Prim.Native.Nat.{ℕ, _+_, _-_, _*_, _/_, _%_, _^_, _≤_, _<_}
 use native.Mathlib.Nat.{le-trans, lt-of-lt-of-le, one-mul, mul-assoc, mul-le-mul, mul-mod-left, mod-le, div-eq-of-lt, mod-eq-of-lt, sub-add-cancel}
 use lib.Bits.{bitAnd, and-mask}
-use lib.Pow.{pow-add, pow-mono, pow-lt}
+use lib.Pow.{pow-add, pow-pos, pow-mono, pow-lt}
 
 -- a one shifted to a place of the word is that power
 pub one-shifted : (w d : ℕ) → d < w → 1 * 2 ^ d % 2 ^ w ≡ 2 ^ d
 one-shifted w d h = ap (λ (x : ℕ). x % 2 ^ w) (one-mul (2 ^ d)) ∙ mod-eq-of-lt (pow-lt h)
+
+-- so it is there
+pub one-shifted-some : (w d : ℕ) → d < w → 1 ≤ 1 * 2 ^ d % 2 ^ w
+one-shifted-some w d h = subst (λ (n : ℕ). 1 ≤ n) (sym (one-shifted w d h)) (pow-pos d)
 
 -- a small number shifted a little is not above a larger power, whatever the word drops
 pub shifted-not-above : (w c d i j y : ℕ) → c ≤ 2 ^ i → d ≤ j → 2 ^ (i + j) ≤ y → c * 2 ^ d % 2 ^ w ≤ y

@@ -39,9 +39,6 @@ module _ (f : Format) (h : HasCode f) where
   unfolding ones
   ones-are = omega (arith, exponent-fields)
 
-  pub exponent-bits-some : 1 ≤ be f
-  exponent-bits-some = omega (arith, exponent-bits)
-
 -- a format in range has at most eleven exponent bits,
 pub exponent-bits-few : (f : Format) → f .emax ≤ 1023 → be f ≤ 11
 unfolding be

@@ -7,8 +7,7 @@ use native.Mathlib.Omega.{arith}
 use lib.Dec.{eqb}
 use mir.Val.{Fits}
 use mir.Syntax.{w64}
-use lib.Pow.{pow-pos, pow-mono, ones-lt, ones-split, shl-lt, shl-exact}
-use Rattle.laws.proofs.Multiples.{multiples-in}
+use lib.Pow.{pow-mono, high, ones-lt, ones-split, shl-lt, shl-exact}
 use borrow.Author.Tests.{ne-eqb}
 use Rattle.laws.proofs.Digits.{size-above}
 use Rattle.laws.proofs.Words.{one-shifted, shifted-not-above}
@@ -54,16 +53,12 @@ module _ (f : Format) (passed : exponentFits (f .emax) ≡ true) where
 
 -- the last code that a word moved down leaves: k ones
 ones-moved-down : (k d : ℕ) → (2 ^ (k + d) - 1) / 2 ^ d ≡ 2 ^ k - 1
-ones-moved-down k d = ap (λ (n : ℕ). n / 2 ^ d) (ones-split k d) ∙ multiples-in (2 ^ d) (2 ^ k - 1) ((2 ^ k - 1) * 2 ^ d + (2 ^ d - 1)) (omega arith) (omega (arith, ones-lt d))
+ones-moved-down k d = ap (λ (n : ℕ). n / 2 ^ d) (ones-split k d) ∙ high (2 ^ k - 1) d (ones-lt d)
 
 -- an exponent field of ones, moved up to its place, fits a word
 pub infinity-code-is : (w bits p : ℕ) → bits ≤ 11 → p ≤ 53 → 63 ≤ w → (1 * 2 ^ bits % 2 ^ w - 1) * 2 ^ (p - 1) % 2 ^ w ≡ (2 ^ bits - 1) * 2 ^ (p - 1)
 infinity-code-is w bits p few most wide =
     ap (λ (n : ℕ). (n - 1) * 2 ^ (p - 1) % 2 ^ w) (one-shifted w bits (omega arith)) ∙ shl-exact bits (p - 1) w (ones-lt bits) (omega arith)
-
--- a one shifted to a place of the word is there
-pub one-shifted-some : (w d : ℕ) → d < w → 1 ≤ 1 * 2 ^ d % 2 ^ w
-one-shifted-some w d h = subst (λ (n : ℕ). 1 ≤ n) (sym (one-shifted w d h)) (pow-pos d)
 
 -- the top fraction bit stands beside it, and fits too
 pub nan-code-is : (w infinity p : ℕ) → p ≤ 53 → 53 < w → infinity + 1 * 2 ^ (p - 2) % 2 ^ w ≡ infinity + 2 ^ (p - 2)

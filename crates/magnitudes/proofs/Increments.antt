@@ -6,7 +6,7 @@ use Prim.Native.Nat.{ℕ, _+_, _-_, _*_, _/_, _%_, _^_, _≤_, _<_}
 use native.Mathlib.Nat.{mul-assoc}
 use native.Mathlib.Omega.{arith}
 use lib.Dec.{eqb}
-use lib.Pow.{pow-add, pow-pos, shl-exact, shl-shr}
+use lib.Pow.{pow-add, shl-exact, shl-shr}
 use Rattle.laws.proofs.Scales.{scale-div}
 use Rattle.laws.proofs.Words.{one-shifted}
 use Rattle.places.specs.Places.{high, low}
@@ -21,9 +21,6 @@ use Rattle.magnitudes.proofs.Choices.{u-below}
 module _ (w d : ℕ) (fits : d < w) where
   digits-below : 1 * 2 ^ d % 2 ^ w - 1 ≡ 2 ^ d - 1
   digits-below = ap (λ (x : ℕ). x - 1) (one-shifted w d fits)
-
-  pub place-positive : 1 ≤ 1 * 2 ^ d % 2 ^ w
-  place-positive = subst (λ (x : ℕ). 1 ≤ x) (sym (one-shifted w d fits)) (pow-pos d)
 
   -- ---- the rows of the table
 

@@ -1,9 +1,7 @@
 -- `places::low_part` meets its contract. Assumes nothing.
 use borrow.Author.Needs.{needs}
-use native.Mathlib.Omega.{arith}
 use mathlib.Core.Path.{sym}
-use lib.Pow.{pow-pos}
-use Rattle.laws.proofs.Words.{one-shifted, low-past, low-masked}
+use Rattle.laws.proofs.Words.{one-shifted-some, low-past, low-masked}
 use Rattle.places.specs.Places.{low}
 use Rattle.places.proofs.low_part.Statement.{statement}
 use Rattle.places.proofs.low_part.Tie as tie
@@ -12,7 +10,7 @@ shl-result : tie.Need-shl-result
 shl-result c = search needs
 
 sub-result : tie.Need-sub-result
-sub-result c = omega (arith, one-shifted 64 (c .before .args .d) (c .if1 .taken), pow-pos (c .before .args .d))
+sub-result c = one-shifted-some 64 (c .before .args .d) (c .if1 .taken)
 
 returns : tie.Need-returns
 unfolding low

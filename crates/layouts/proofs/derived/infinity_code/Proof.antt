@@ -1,7 +1,8 @@
 -- `layouts::derived::infinity_code` meets its contract. Assumes nothing.
 use lib.Dec.{lit≤}
 use borrow.Author.Needs.{needs}
-use Rattle.layouts.proofs.Layouts.{one-shifted-some, infinity-code-is}
+use Rattle.laws.proofs.Words.{one-shifted-some}
+use Rattle.layouts.proofs.Layouts.{infinity-code-is}
 use Rattle.layouts.proofs.derived.infinity_code.Statement.{statement}
 use Rattle.layouts.proofs.derived.infinity_code.Tie as tie
 

@@ -1,11 +1,12 @@
 -- `magnitudes::modes::increment_of` meets its contract. Assumes nothing.
 use borrow.Author.Needs.{needs}
-use Rattle.magnitudes.proofs.Increments.{place-positive, random-below, ties-to-even-adds, ties-to-zero-adds, ties-away-adds, toward-zero-adds, toward-plus-adds, toward-minus-adds, to-odd-adds, stochastic-adds, even-chance-adds}
+use Rattle.laws.proofs.Words.{one-shifted-some}
+use Rattle.magnitudes.proofs.Increments.{random-below, ties-to-even-adds, ties-to-zero-adds, ties-away-adds, toward-zero-adds, toward-plus-adds, toward-minus-adds, to-odd-adds, stochastic-adds, even-chance-adds}
 use Rattle.magnitudes.proofs.modes.increment_of.Statement.{statement}
 use Rattle.magnitudes.proofs.modes.increment_of.Tie as tie
 
 sub-below : tie.Need-sub-below
-sub-below c = search place-positive
+sub-below c = search one-shifted-some
 
 share-requires : tie.Need-share-requires
 share-requires c κs = (search random-below, search needs)
