@@ -1,7 +1,8 @@
 #!/usr/bin/env python3
-"""worked_examples.py FILE...
+"""worked_examples.py VECTORS COUNTS FILE...
 
-Reads the texts that the programs of the crates blackboard and trials have to write, works out every answer
+Reads the rows of code vectors that the program of the crate vectors works out, with the text of counts that it
+has to write, and the texts that the programs of the crates blackboard and trials have to write, works out every answer
 in them anew, from the rules of document 01 in exact fractions, and compares; published codes are compared
 with the numbers that are published of them, too. It shares nothing with the proved code. Leaves with 0 only
 if each text has at least one answer and all agree.
@@ -360,10 +361,34 @@ def check(name):
     return answers > 0 and wrong == 0
 
 
+def check_vectors(rows, counts):
+    """Works out every row of code vectors anew, and compares how many there are with the text of counts."""
+    form = re.compile(r'(pack|unpack) (\d+) (\d+) ([01]) ([0-9A-F]{16}) -> (\d+) 0 ([0-9A-F]{16})')
+    calls, there, wrong = {'pack': packed, 'unpack': unpacked}, {'pack': 0, 'unpack': 0}, 0
+    with open(rows, encoding='ascii') as text:
+        for number, line in enumerate(text, 1):
+            row = form.fullmatch(line.rstrip('\n'))
+            if row:
+                there[row[1]] += 1
+                p, emax, sub = int(row[2]), int(row[3]), row[4] == '1'
+            if not row or calls[row[1]](p, emax, sub, int(row[5], 16)) != (int(row[6]), int(row[7], 16)):
+                wrong += 1
+                print('%s:%d: %s' % (rows, number, line.rstrip('\n')), file=sys.stderr)
+    due = ''.join('%s rows=%d right=%d\n' % (call, n, n) for call, n in there.items()) + 'strange rows=0\n'
+    with open(counts, encoding='ascii') as text:
+        same = text.read() == due
+    print('code vectors of %s: %d rows, %d wrong, counts %s' % (rows, sum(there.values()), wrong, 'right' if same else 'wrong'))
+    return same and wrong == 0 and all(there.values())
+
+
 def main():
-    if len(sys.argv) < 2:
-        sys.exit('usage: worked_examples.py FILE...')
-    sys.exit(not all([check(name) for name in sys.argv[1:]]))
+    if len(sys.argv) < 4:
+        sys.exit('usage: worked_examples.py VECTORS COUNTS FILE...')
+    try:
+        vectors = check_vectors(sys.argv[1], sys.argv[2])
+    except (OSError, UnicodeDecodeError) as fault:
+        sys.exit('worked_examples.py: %s' % fault)
+    sys.exit(not all([vectors] + [check(name) for name in sys.argv[3:]]))
 
 
 main()

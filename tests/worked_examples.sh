@@ -1,6 +1,6 @@
 #!/usr/bin/env bash
-# What the programs of the crates blackboard and trials have to write is right by the rules of document
-# 01, worked out anew by tests/worked_examples.py. That they write it, rt check and rt ci see.
+# What the programs of the crates blackboard, trials and vectors have to write is right by the rules of
+# document 01, worked out anew by tests/worked_examples.py. That they write it, rt check and rt ci see.
 set -euo pipefail
 unset CDPATH
 cd "$(dirname "$0")/.."
@@ -12,4 +12,4 @@ if ! command -v python3 >/dev/null; then
         exit 1
     }
 fi
-python3 tests/worked_examples.py crates/blackboard/stdout crates/trials/stdout
+python3 tests/worked_examples.py crates/vectors/stdin crates/vectors/stdout crates/blackboard/stdout crates/trials/stdout

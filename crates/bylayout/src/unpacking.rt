@@ -40,6 +40,7 @@ fn small_pattern(bottom: u64, n: u64) -> u64
     if n == 0 {
         return 0;
     }
+    // below 2^52 a number is the pattern of itself, so its digits are the pattern's
     let room = room_above(digits_of(n));
     if bottom < room {
         return moved_up(n, bottom);
@@ -80,14 +81,14 @@ pub fn unpack_by(l: Layout, c: u64) -> Unpacked
 {
     let w = moved_up(c, l.spare);
     let n = high_part(magnitude_of(w), l.spare);
-    let nothing = is_no_number(l, n);
+    let no_number = is_no_number(l, n);
     if l.last < c {
         return Unpacked {
             number: TOO_LARGE,
             pattern: 0,
         };
     }
-    if nothing {
+    if no_number {
         return Unpacked {
             number: NO_NUMBER,
             pattern: 0,

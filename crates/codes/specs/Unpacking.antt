@@ -8,18 +8,17 @@ use Rattle.grid.specs.declared.Format.{Format}
 use Rattle.grid.specs.Formats.{emin}
 use Rattle.layouts.specs.Fields.{negative, exponent, fraction, bias, ones}
 
--- What the exponent and the fraction are worth together, in units. At exponent field 0 the fraction counts as it stands, in
+-- What an exponent field and a fraction m are worth together, in units. At exponent field 0 the fraction counts as it stands, in
 -- the last place of the smallest normal number. Otherwise a one stands in front of it, and the exponent is the field less the
 -- bias.
 unfoldable pub worthIn : Format → ℕ → ℕ → ℕ
-worthIn f zero fraction = fraction * 2 ^ (emin f + 1 - f .p)
-worthIn f (suc e) fraction = (2 ^ (f .p - 1) + fraction) * 2 ^ (suc e + 1074 - bias f + 1 - f .p)
+worthIn f zero m = m * 2 ^ (emin f + 1 - f .p)
+worthIn f (suc e) m = (2 ^ (f .p - 1) + m) * 2 ^ (suc e + 1074 - bias f + 1 - f .p)
 
--- The magnitude pattern that the two fields stand for: infinity or NaN where the exponent is all ones, else a number. A NaN's
--- fraction is not kept.
+-- The magnitude pattern that an exponent field e and a fraction m stand for: infinity or NaN where the exponent is all ones, else a
+-- number. A NaN's fraction is not kept.
 unfoldable pub magnitudeOf : Format → ℕ → ℕ → ℕ
-magnitudeOf f exponent fraction =
-    cond (eqb exponent (ones f)) (cond (eqb fraction 0) infinity quietNaN) (pat (worthIn f exponent fraction))
+magnitudeOf f e m = cond (eqb e (ones f)) (cond (eqb m 0) infinity quietNaN) (pat (worthIn f e m))
 
 -- the pattern: that magnitude with the code's sign
 unfoldable pub patternOf : Format → ℕ → ℕ

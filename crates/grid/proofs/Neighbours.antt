@@ -1,6 +1,6 @@
 -- lo and hi are what document 01 says: for every format in range and every magnitude below T, the largest candidate not
 -- above it and the next one, and no other numbers are. All of it rests on one law, `step-within`: from lo up to hi the step
--- does not change. Assumes nothing.
+-- does not change. And the test `held` says that a magnitude is a candidate below T. Assumes nothing.
 use mathlib.Core.Bool.{Bool, true, _&&_}
 use mathlib.Core.Path.{_≡_, sym, ap, _∙_, subst}
 use mathlib.Core.Logic.{_⊎_, inl, inr}

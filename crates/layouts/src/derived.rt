@@ -16,7 +16,8 @@ use grid::top_pattern;
 use grid::zeta_exponent;
 use patterns::digits_of;
 
-// How many bits the exponent field has: the digits of emax + 1.
+// How many bits the exponent field has: the digits of emax + 1, which is small enough to be the pattern
+// of itself.
 fn exponent_bits(f: Format) -> u64
     requires { ⌜ exponentFits (f .emax) ≡ true ⌝ }
     ensures { λ y. ⌜ y ≡ be f ⌝ }

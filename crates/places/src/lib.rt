@@ -24,12 +24,12 @@ pub fn low_part(n: u64, d: u64) -> u64
     n
 }
 
-// n moved up by d places, as far as the word reaches.
-pub fn moved_up(n: u64, d: u64) -> u64
-    ensures { λ r. ⌜ r ≡ movedUp n d ⌝ }
+// w moved up by d places, as far as the word reaches.
+pub fn moved_up(w: u64, d: u64) -> u64
+    ensures { λ r. ⌜ r ≡ movedUp w d ⌝ }
 {
     if 63 < d {
         return 0;
     }
-    n << d
+    w << d
 }

@@ -5,11 +5,11 @@ use Prim.Native.Nat.{ℕ}
 use Rattle.reports.specs.Reports.{report, reportAt, firstRefused}
 
 -- a rule that gives each entry itself as the number of its refusal
-lowest : ℕ → ℕ
-lowest x = x
+itself : ℕ → ℕ
+itself x = x
 
 -- nothing, no bad entry, and bad ones at the first place, at the last, and at several, of which the lowest decides
-lowest-places : map (firstRefused lowest 0)
+lowest-places : map (firstRefused itself 0)
     ([]
     ∷ (0 ∷ 0 ∷ [])
     ∷ (9 ∷ 0 ∷ 10 ∷ [])
@@ -22,5 +22,5 @@ lowest-places : map (firstRefused lowest 0)
     ∷ reportAt 8 2
     ∷ reportAt 10 1
     ∷ []
-unfolding firstRefused lowest
+unfolding firstRefused itself
 lowest-places = refl

@@ -87,7 +87,7 @@ pub(crate) fn refused_entries() {
     print_both(without, &[1, 0, 1], &NO_NUMBER);
 }
 
-// 1, 2, 7 and 5, each before those that follow: the arrays are too long for the output, and their
+// 1, 2, 7 and 5, each before those that follow: the arrays are not as long as the output, and their
 // entries bad.
 pub(crate) fn refused_calls() {
     let binary16 = known_format(0).format;

@@ -4,6 +4,17 @@ use std::num::wrapping_add_u64;
 
 const BLANK: u8 = 32;
 
+// What is no digit is worth more than any digit.
+const NO_DIGIT: u64 = 16;
+
+// The fields that hold no digits: the call and the arrow.
+const CALL: u64 = 0;
+
+const ARROW: u64 = 5;
+
+// A field that no row has: from it on a row is strange, whatever follows.
+const SPOILT: u64 = 0x1_0000_0000;
+
 // The fields of a row, as far as it is read, and which of them is being read, counted from 0: the call's
 // first letter, p, emax, sub, the pattern or code that is given, the arrow, the number, the place, and
 // the code or pattern that is due.
@@ -34,21 +45,21 @@ pub(crate) fn empty() -> Row {
     }
 }
 
-// What a digit is worth, by decimal or upper-case hexadecimal; 0 for any other byte.
+// What a digit is worth, by decimal or upper-case hexadecimal; NO_DIGIT for any other byte.
 fn worth(byte: u8) -> u64 {
     if byte < 48 {
-        return 0;
+        return NO_DIGIT;
     }
     if byte < 58 {
         return (byte - 48) as u64;
     }
     if byte < 65 {
-        return 0;
+        return NO_DIGIT;
     }
     if byte < 71 {
         return (byte - 55) as u64;
     }
-    0
+    NO_DIGIT
 }
 
 // A decimal number with one more digit.
@@ -61,9 +72,8 @@ fn hexadecimal(n: u64, digit: u64) -> u64 {
     wrapping_add_u64(moved_up(n, 4), digit)
 }
 
-// The row with one more byte of the field that is being read.
-fn with_digit(row: Row, byte: u8) -> Row {
-    let digit = worth(byte);
+// The row with one more digit of the field that is being read.
+fn with_digit(row: Row, digit: u64) -> Row {
     let field = row.field;
     match field {
         1 => Row {
@@ -98,6 +108,25 @@ fn with_digit(row: Row, byte: u8) -> Row {
     }
 }
 
+// The row with one more byte of the field that is being read, which is spoilt by what is no digit; of the
+// call and the arrow no more is looked at.
+fn with_rest(row: Row, byte: u8) -> Row {
+    if row.field == CALL {
+        return row;
+    }
+    if row.field == ARROW {
+        return row;
+    }
+    let digit = worth(byte);
+    if digit == NO_DIGIT {
+        return Row {
+            field: SPOILT,
+            ..row
+        };
+    }
+    with_digit(row, digit)
+}
+
 // The row with one more byte: a blank ends a field, and the first letter tells the call.
 pub(crate) fn with_byte(row: Row, byte: u8) -> Row {
     if byte == BLANK {
@@ -112,5 +141,5 @@ pub(crate) fn with_byte(row: Row, byte: u8) -> Row {
             ..row
         };
     }
-    with_digit(row, byte)
+    with_rest(row, byte)
 }

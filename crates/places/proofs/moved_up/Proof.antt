@@ -8,7 +8,7 @@ use Rattle.places.proofs.moved_up.Tie as tie
 
 returns : tie.Need-returns
 unfolding movedUp
-returns c = sym (moved-past 64 (c .before .args .n) (c .before .args .d) (c .if1 .taken))
+returns c = sym (moved-past 64 (c .before .args .w) (c .before .args .d) (c .if1 .taken))
 
 returns-2 : tie.Need-returns-2
 unfolding movedUp
