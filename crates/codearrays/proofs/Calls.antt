@@ -10,7 +10,8 @@ use Rattle.layouts.specs.declared.Layout.{Layout}
 use Rattle.layouts.specs.declared.Laid.{Laid}
 use Rattle.layouts.specs.Fields.{HasCode}
 use Rattle.layouts.specs.Layouts.{laid}
-use Rattle.layouts.proofs.Refusals.{accepted-has-code, laid-number, laid-layout}
+use Rattle.layouts.proofs.Layouts.{laid-number, laid-layout}
+use Rattle.layouts.proofs.Refusals.{accepted-has-code}
 use Rattle.bylayout.specs.declared.Packed.{Packed}
 use Rattle.bylayout.specs.declared.Unpacked.{Unpacked}
 use Rattle.codes.specs.Calls.{packed, unpacked}

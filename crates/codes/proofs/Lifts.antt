@@ -14,7 +14,7 @@ use Rattle.grid.specs.declared.Format.{Format}
 use Rattle.layouts.specs.Fields.{HasCode, width, negative}
 use Rattle.layouts.specs.Layouts.{layout}
 use Rattle.layouts.proofs.Fields.{width-fits}
-use Rattle.layouts.proofs.Splits.{negative-is}
+use Rattle.layouts.proofs.Splits.{width-is-more, negative-is}
 use Rattle.bylayout.specs.ByLayout.{codeBy, lifted, fieldsIn}
 
 module _ (j s : ℕ) (word : j + s ≡ 63) where
@@ -64,13 +64,9 @@ module _ (j s : ℕ) (word : j + s ≡ 63) where
 
 module _ (f : Format) (h : HasCode f) where
   -- the sign, the fields and the spare bits fill a word
-  some-width : width f ≡ suc (width f - 1)
-  unfolding width
-  some-width = omega (arith, h .range)
-
   spare-place : width f - 1 + layout f .spare ≡ 63
   unfolding layout
-  spare-place = omega (arith, some-width, width-fits f (h .range))
+  spare-place = omega (arith, width-is-more f h, width-fits f (h .range))
 
   -- the code of fields below the sign of x
   pub code-by : (x n : ℕ) → n < 2 ^ (width f - 1) → codeBy (layout f) x n ≡ cond (sign x) (2 ^ (width f - 1) + n) n
@@ -78,7 +74,7 @@ module _ (f : Format) (h : HasCode f) where
 
   module _ (c : ℕ) (fits : c < 2 ^ width f) where
     lifted-is : lifted (layout f) c ≡ c * 2 ^ layout f .spare
-    lifted-is = lifted-whole (width f - 1) (layout f .spare) spare-place c (subst (λ (k : ℕ). c < 2 ^ k) some-width fits)
+    lifted-is = lifted-whole (width f - 1) (layout f .spare) spare-place c (subst (λ (k : ℕ). c < 2 ^ k) (width-is-more f h) fits)
 
     -- the sign and the fields of a code
     pub sign-in : sign (lifted (layout f) c) ≡ negative f c

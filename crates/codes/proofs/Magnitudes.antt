@@ -108,7 +108,7 @@ module _ (f : Format) (h : HasCode f) where
       zero-value : mag x ≡ 0 → 0 ≡ val (mag x)
       zero-value none = sym (ap val none ∙ val-small 0 (lit< tt))
 
-      pub number-fields : fieldsFor f x ≡ fieldsOf f (val (mag x))
+      number-fields : fieldsFor f x ≡ fieldsOf f (val (mag x))
       unfolding fieldsBy
       number-fields = go (eq-zero-or-pos (mag x))
         where
@@ -133,7 +133,7 @@ module _ (f : Format) (h : HasCode f) where
       infinite : Infinity ≡ kindOf x
       infinite = kind-infinity x (mag x) refl (λ (none : mag x ≡ 0). omega arith) (le-of-eq (sym at)) at
 
-      pub infinity-fields : fieldsFor f x ≡ infinityFields f
+      infinity-fields : fieldsFor f x ≡ infinityFields f
       unfolding fieldsBy
       infinity-fields = fields-by-kind Infinity infinite
 
@@ -172,7 +172,7 @@ module _ (f : Format) (h : HasCode f) where
 
     module _ (most : n ≤ infinityFields f) where
       -- so fields up to infinity's stand for a pattern up to infinity's,
-      pub magnitude-most : magnitudeFor f n ≤ infinity
+      magnitude-most : magnitudeFor f n ≤ infinity
       magnitude-most = go (eq-or-lt-of-le most)
         where
           go : (n ≡ infinityFields f) ⊎ (n < infinityFields f) → magnitudeFor f n ≤ infinity

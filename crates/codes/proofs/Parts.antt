@@ -53,7 +53,7 @@ module _ (f : Format) (h : HasCode f) where
     unfolding noNumber
     number-at = ap₂ (λ (e m : ℕ). not (f .sub) && (eqb e 0 && not (eqb m 0))) exponent-at fraction-at
 
-    pub number-passes : Number f n → noNumber f c ≡ false
+    number-passes : Number f n → noNumber f c ≡ false
     number-passes number = number-at ∙ go number
       where
         go : Number f n → (not (f .sub) && (eqb (n / row) 0 && not (eqb (n % row) 0))) ≡ false

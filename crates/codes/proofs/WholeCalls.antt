@@ -9,7 +9,8 @@ use Rattle.layouts.specs.declared.Layout.{Layout}
 use Rattle.layouts.specs.declared.Laid.{Laid}
 use Rattle.layouts.specs.Calls.{formatRefusal}
 use Rattle.layouts.specs.Layouts.{laid}
-use Rattle.layouts.proofs.Refusals.{accepted-has-code, laid-number, laid-layout}
+use Rattle.layouts.proofs.Layouts.{laid-number, laid-layout}
+use Rattle.layouts.proofs.Refusals.{accepted-has-code}
 use Rattle.bylayout.specs.declared.Packed.{Packed}
 use Rattle.bylayout.specs.declared.Unpacked.{Unpacked}
 use Rattle.bylayout.specs.Answers.{noCode, noPattern}

@@ -235,7 +235,7 @@ pub held-below : (f : Format) (a : ℕ) → held f a ≡ true → a < T f
 unfolding held
 held-below f a h = ltb-true a (T f) (and-left (ltb a (T f)) (eqb (lo f a) a) h)
 
-pub held-whole : (f : Format) (a : ℕ) → held f a ≡ true → lo f a ≡ a
+held-whole : (f : Format) (a : ℕ) → held f a ≡ true → lo f a ≡ a
 unfolding held
 held-whole f a h = eqb-true (lo f a) a (and-right (ltb a (T f)) (eqb (lo f a) a) h)
 
@@ -243,7 +243,7 @@ pub held-candidate : (f : Format) → InRange f → (a : ℕ) → held f a ≡ t
 held-candidate f r a h = whole-candidate f r a (held-below f a h) (held-whole f a h)
 
 -- and it holds of every candidate below T
-pub whole-held : (f : Format) (a : ℕ) → a < T f → lo f a ≡ a → held f a ≡ true
+whole-held : (f : Format) (a : ℕ) → a < T f → lo f a ≡ a → held f a ≡ true
 unfolding held
 whole-held f a below whole = ap (λ (b : Bool). b && eqb (lo f a) a) (lt-ltb a (T f) below) ∙ eq-eqb (lo f a) a whole
 

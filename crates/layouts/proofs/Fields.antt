@@ -31,7 +31,7 @@ module _ (f : Format) (h : HasCode f) where
       less b d e = omega arith
 
   -- so the exponent field counts from 0 to 2 · emax + 1,
-  pub exponent-fields : 2 ^ be f ≡ 2 * (f .emax + 1)
+  exponent-fields : 2 ^ be f ≡ 2 * (f .emax + 1)
   exponent-fields = ap (λ (k : ℕ). 2 ^ k) exponent-bits ∙ pow-succ' 2 (h .digits) ∙ ap (λ (n : ℕ). 2 * n) (sym (h .power))
 
   -- and that is its last number, with ones only

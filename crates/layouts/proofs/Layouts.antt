@@ -1,5 +1,5 @@
--- A format's layout, as the code works it out. Assumes nothing.
-use mathlib.Core.Bool.{true}
+-- A format's layout, as the code works it out, and what a format comes to. Assumes nothing.
+use mathlib.Core.Bool.{Bool, true, false, cond}
 use mathlib.Core.Path.{_≡_, refl, sym, ap, _∙_, subst}
 use Prim.Native.Nat.{ℕ, _+_, _-_, _*_, _/_, _%_, _^_, _≤_, _<_}
 use native.Mathlib.Nat.{le-refl, lt-of-lt-of-le}
@@ -8,7 +8,7 @@ use lib.Dec.{eqb}
 use mir.Val.{Fits}
 use mir.Syntax.{w64}
 use lib.Pow.{pow-mono, high, ones-lt, ones-split, shl-lt, shl-exact}
-use borrow.Author.Tests.{ne-eqb}
+use borrow.Author.Tests.{eqb-true, eq-eqb, ne-eqb}
 use Rattle.laws.proofs.Digits.{size-above}
 use Rattle.laws.proofs.Words.{one-shifted, shifted-not-above}
 use Rattle.patterns.specs.Patterns.{digitsOf}
@@ -18,9 +18,10 @@ use Rattle.grid.specs.Formats.{exponentFits, InRange, zetaExp, smallestNormal, 
 use Rattle.grid.proofs.Ranges.{between-most}
 use Rattle.grid.proofs.Landmarks.{pattern-in-range, exponent-in-range}
 use Rattle.layouts.specs.declared.Layout.{Layout}
+use Rattle.layouts.specs.declared.Laid.{Laid}
 use Rattle.layouts.specs.Fields.{be, hasCode, width, ones}
 use Rattle.layouts.specs.Calls.{formatRefusal}
-use Rattle.layouts.specs.Layouts.{layout, refused, laid}
+use Rattle.layouts.specs.Layouts.{layout, ready, refused, laid}
 use Rattle.layouts.proofs.Fields.{exponent-bits-few, exponent-bits-most, width-fits}
 use Rattle.layouts.proofs.Refusals.{accepted-in-range, accepted-inside}
 
@@ -133,3 +134,21 @@ module _ (f : Format) (n : ℕ) (e : n ≡ formatRefusal f) where
   pub laid-refused : (n ≡ 0 → ⊥) → refused n ≡ laid f
   unfolding laid
   laid-refused some = simp (← e, ne-eqb n 0 some)
+
+-- and what that says of the format
+module _ (f : Format) (l : Laid) (e : l ≡ laid f) where
+  -- the number is the refusal's
+  pub laid-number : l .number ≡ formatRefusal f
+  unfolding laid
+  laid-number = ap (λ (y : Laid). y .number) e ∙ go (eqb (formatRefusal f) 0) refl
+    where
+      go : (b : Bool) → eqb (formatRefusal f) 0 ≡ b → cond b (ready (layout f)) (refused (formatRefusal f)) .number ≡ formatRefusal f
+      go true t = sym (eqb-true (formatRefusal f) 0 t)
+      go false t = refl
+
+  -- and where that is 0, it has the format's layout
+  pub laid-layout : l .number ≡ 0 → l .layout ≡ layout f
+  unfolding laid
+  laid-layout none =
+      ap (λ (y : Laid). y .layout) e
+      ∙ ap (λ (b : Bool). cond b (ready (layout f)) (refused (formatRefusal f)) .layout) (eq-eqb (formatRefusal f) 0 (sym laid-number ∙ none))

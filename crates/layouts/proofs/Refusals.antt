@@ -1,19 +1,16 @@
 -- The refusals that come before any code or pattern is looked at, as the code comes to them, and what a format that is not refused
 -- may lean on. Assumes nothing.
 use mathlib.Core.Bool.{Bool, true, false, cond, not, _&&_}
-use mathlib.Core.Path.{_≡_, refl, sym, ap, _∙_}
+use mathlib.Core.Path.{_≡_, refl, sym, _∙_}
 use Prim.Native.Nat.{ℕ, _≤_}
 use native.Mathlib.Omega.{arith}
-use lib.Dec.{eqb}
-use borrow.Author.Tests.{eq-eqb, eqb-true, not-false}
+use borrow.Author.Tests.{not-false}
 use Rattle.laws.proofs.Tests.{and-left, and-right}
 use Rattle.grid.specs.declared.Format.{Format}
 use Rattle.grid.specs.Formats.{precisionFits, exponentFits, inRange, InRange}
 use Rattle.grid.proofs.Ranges.{in-range-bounds, bounds-in-range}
-use Rattle.layouts.specs.declared.Laid.{Laid}
 use Rattle.layouts.specs.Fields.{hasCode, HasCode}
 use Rattle.layouts.specs.Calls.{formatRefusal}
-use Rattle.layouts.specs.Layouts.{layout, ready, refused, laid}
 use Rattle.layouts.proofs.Fields.{tested-has-code, has-code-tested}
 
 -- ---- one test after the other
@@ -91,22 +88,3 @@ unfolding formatRefusal inRange
 has-code-accepted f h =
     let fits = bounds-in-range f (h .range) in
     simp (and-left (precisionFits (f .p)) (exponentFits (f .emax)) fits, and-right (precisionFits (f .p)) (exponentFits (f .emax)) fits, has-code-tested f h)
-
--- ---- what a format comes to
-
-module _ (f : Format) (l : Laid) (e : l ≡ laid f) where
-  -- its number is the refusal's
-  pub laid-number : l .number ≡ formatRefusal f
-  unfolding laid
-  laid-number = ap (λ (y : Laid). y .number) e ∙ go (eqb (formatRefusal f) 0) refl
-    where
-      go : (b : Bool) → eqb (formatRefusal f) 0 ≡ b → cond b (ready (layout f)) (refused (formatRefusal f)) .number ≡ formatRefusal f
-      go true t = sym (eqb-true (formatRefusal f) 0 t)
-      go false t = refl
-
-  -- and where that is 0, it has the format's layout
-  pub laid-layout : l .number ≡ 0 → l .layout ≡ layout f
-  unfolding laid
-  laid-layout none =
-      ap (λ (y : Laid). y .layout) e
-      ∙ ap (λ (b : Bool). cond b (ready (layout f)) (refused (formatRefusal f)) .layout) (eq-eqb (formatRefusal f) 0 (sym laid-number ∙ none))

@@ -20,13 +20,14 @@ module _ (f : Format) (h : HasCode f) where
   unfolding width
   width-below-sign = omega (arith, h .range .p-least)
 
-  -- and the sign doubles what there is
-  pub width-with-sign : 2 ^ width f ≡ 2 * 2 ^ (width f - 1)
+  -- and the sign is one more
+  pub width-is-more : width f ≡ suc (width f - 1)
   unfolding width
-  width-with-sign = ap (λ (k : ℕ). 2 ^ k) some ∙ pow-succ' 2 (width f - 1)
-    where
-      some : width f ≡ suc (width f - 1)
-      some = omega (arith, h .range .p-least)
+  width-is-more = omega (arith, h .range .p-least)
+
+  -- and doubles what there is
+  width-with-sign : 2 ^ width f ≡ 2 * 2 ^ (width f - 1)
+  width-with-sign = ap (λ (k : ℕ). 2 ^ k) width-is-more ∙ pow-succ' 2 (width f - 1)
 
   module _ (c : ℕ) where
     -- ---- the fields
@@ -46,10 +47,10 @@ module _ (f : Format) (h : HasCode f) where
     negative-at q e = ap (λ (x : ℕ). eqb (x % 2) 1) e
 
     -- a code below 2^(k - 1) has none, and any other has one
-    pub positive-code : c < 2 ^ (width f - 1) → negative f c ≡ false
+    positive-code : c < 2 ^ (width f - 1) → negative f c ≡ false
     positive-code below = negative-at 0 (div-eq-of-lt below)
 
-    pub negative-code : 2 ^ (width f - 1) ≤ c → c < 2 ^ width f → negative f c ≡ true
+    negative-code : 2 ^ (width f - 1) ≤ c → c < 2 ^ width f → negative f c ≡ true
     negative-code reached fits =
         negative-at 1 (multiples-in d 1 c (omega (arith, one-mul d)) (omega (arith, one-mul d, width-with-sign)))
       where
