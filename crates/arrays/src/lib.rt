@@ -1,6 +1,7 @@
-// Whole arrays. A call decides first, by its numbers and the lengths of its arrays, and writes only
-// where nothing is refused. The contracts cite the definitions in specs/; start with specs/Lib.antt.
-// Every callable function answers for all inputs, arrays of any lengths among them.
+// Whole arrays: rounded here, and packed and unpacked by the crate codearrays, whose calls are handed out
+// too. A call decides first, by its numbers and the lengths of its arrays, and writes only where nothing
+// is refused. The contracts cite the definitions in specs/; start with specs/Lib.antt. Every callable
+// function answers for all inputs, arrays of any lengths among them.
 mod calls;
 mod decisions;
 mod loops;

@@ -77,6 +77,7 @@ lifted l c = movedUp c (l .spare)
 abbrev pub fieldsIn : Layout → ℕ → ℕ
 fieldsIn l c = high (mag (lifted l c)) (l .spare)
 
+-- a code's pattern, or refusal 9, then 10
 unfoldable pub unpackedBy : Layout → ℕ → Unpacked
 unpackedBy l c =
     cond (ltb (l .last) c) (noPattern 9)

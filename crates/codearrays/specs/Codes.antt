@@ -32,28 +32,32 @@ codesReported refuses f xs out =
 unfoldable pub codesAfterwards : (ℕ → ℕ) → (ℕ → ℕ) → Format → List ℕ → List ℕ → List ℕ
 codesAfterwards refuses writes f xs out = cond (eqb (codesReported refuses f xs out .number) 0) (map writes xs) out
 
--- ---- packing: refusal 8, and the code
+-- ---- packing
 
+-- a pattern's refusal, 8 or 0, and its code
 abbrev pub packNumber : Format → ℕ → ℕ
 packNumber f x = packed f x .number
 
 abbrev pub packCode : Format → ℕ → ℕ
 packCode f x = packed f x .code
 
+-- what is reported where an array is packed, and what the output holds afterwards
 abbrev pub packReported : Format → List ℕ → List ℕ → Report
 packReported f xs out = codesReported (packNumber f) f xs out
 
 abbrev pub packAfterwards : Format → List ℕ → List ℕ → List ℕ
 packAfterwards f xs out = codesAfterwards (packNumber f) (packCode f) f xs out
 
--- ---- unpacking: refusals 9 and 10, in that order, and the pattern
+-- ---- unpacking
 
+-- a code's refusal, 9 before 10, or 0, and its pattern
 abbrev pub unpackNumber : Format → ℕ → ℕ
 unpackNumber f c = unpacked f c .number
 
 abbrev pub unpackPattern : Format → ℕ → ℕ
 unpackPattern f c = unpacked f c .pattern
 
+-- what is reported where an array is unpacked, and what the output holds afterwards
 abbrev pub unpackReported : Format → List ℕ → List ℕ → Report
 unpackReported f codes out = codesReported (unpackNumber f) f codes out
 

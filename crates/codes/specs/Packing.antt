@@ -44,5 +44,6 @@ hasBy f Finite a = held f a
 hasBy f Infinity a = true
 hasBy f NaN a = true
 
+-- the same of a whole pattern
 unfoldable pub inFormat : Format → ℕ → Bool
 inFormat f x = hasBy f (kindOf x) (val (mag x))

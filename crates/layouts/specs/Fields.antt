@@ -22,20 +22,23 @@ pub record HasCode (f : Format) : Type 0 where
   pub digits : ℕ
   pub power : f .emax + 1 ≡ 2 ^ digits
 
--- k, how many bits a code has: the sign, be exponent bits, and p - 1 fraction bits, from the top
+-- k, how many bits a code has: a sign, be exponent bits, and p - 1 fraction bits
 unfoldable pub width : Format → ℕ
 width f = be f + f .p
 
+-- the sign, the first of the k bits: set in a negative number
 unfoldable pub negative : Format → ℕ → Bool
 negative f c = eqb (c / 2 ^ (width f - 1) % 2) 1
 
+-- the exponent field, the next be bits
 unfoldable pub exponent : Format → ℕ → ℕ
 exponent f c = c / 2 ^ (f .p - 1) % 2 ^ be f
 
+-- the fraction, the last p - 1 bits
 unfoldable pub fraction : Format → ℕ → ℕ
 fraction f c = c % 2 ^ (f .p - 1)
 
--- what the exponent field has more than the exponent
+-- the bias, by which the exponent field is above the exponent
 unfoldable pub bias : Format → ℕ
 bias f = f .emax
 

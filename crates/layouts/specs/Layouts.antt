@@ -30,6 +30,7 @@ layout f =
 abbrev pub noLayout : Layout
 noLayout = record { sub = false; spare = 0; last = 0; cut = 0; bottom = 0; normal = 0; top = 0; first = 0; infinity = 0; nan = 0 }
 
+-- an accepted format's answer, and a refused one's
 abbrev pub ready : Layout → Laid
 ready l = record { number = 0; layout = l }
 
