@@ -52,15 +52,25 @@ fn print_too_short(format: Format, mode: u64, r: u64) {
     print_array(format, mode, r, &[], &FIVE, &mut out);
 }
 
-// Nothing to round, one pattern to round, and words and an r that are not looked at.
-pub(crate) fn accepted(words: &[u64]) {
+// Nothing to round.
+pub(crate) fn of_nothing(words: &[u64]) {
     let f = known_format(0).format;
     print_array(f, 0, 0, &[], &[], &mut []);
     print_array(f, 7, 2, &[], &[], &mut []);
     print_array(f, 8, 0, words, &[], &mut []);
+}
+
+// One pattern to round.
+pub(crate) fn of_one() {
+    let f = known_format(0).format;
     let mut out = [0xA1];
     print_array(f, 2, 0, &[], &[0x3FF0_0200_0000_0000], &mut out);
     print_array(f, 7, 2, &[1], &[0x3FF0_0300_0000_0000], &mut out);
+}
+
+// Words and an r that are not looked at.
+pub(crate) fn not_looked_at(words: &[u64]) {
+    let f = known_format(0).format;
     print_five(f, 0, 54, &[]);
     print_five(f, 8, 54, words);
 }
@@ -74,7 +84,7 @@ pub(crate) fn in_every_mode(words: &[u64]) {
     }
 }
 
-// Each refusal: the output holds what it held.
+// Each refusal by the numbers: the output holds what it held.
 pub(crate) fn refused(words: &[u64]) {
     let f = known_format(0).format;
     // 1: p
@@ -85,6 +95,11 @@ pub(crate) fn refused(words: &[u64]) {
     print_five(f, 9, 0, words);
     // 4: r in mode 7
     print_five(f, 7, 54, words);
+}
+
+// By the lengths.
+pub(crate) fn refused_lengths() {
+    let f = known_format(0).format;
     // 5: an output that is too short, and one that is too long
     print_too_short(f, 0, 0);
     let mut out = [0xA1, 0xA2];

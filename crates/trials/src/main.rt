@@ -9,9 +9,12 @@ mod totals;
 fn main() {
     // words for five places, and one more
     let words = [0, 1, 2, 3, 0xFFFF_FFFF_FFFF_FFFF, 4];
-    array_calls::accepted(&words);
+    array_calls::of_nothing(&words);
+    array_calls::of_one();
+    array_calls::not_looked_at(&words);
     array_calls::in_every_mode(&words);
     array_calls::refused(&words);
+    array_calls::refused_lengths();
     array_calls::refused_first();
     code_calls::in_known_formats();
     code_calls::of_nothing();
