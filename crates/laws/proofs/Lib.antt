@@ -4,6 +4,7 @@ pub mod Fills
 pub mod Lists
 pub mod Multiples
 pub mod Orders
+pub mod Overlays
 pub mod Scales
 pub mod Sums
 pub mod Tables

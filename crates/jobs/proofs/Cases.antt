@@ -1,0 +1,70 @@
+-- Closed cases: document 01's job as a text, and texts that are read or refused, computed. Assumes nothing.
+use mathlib.Core.List.{List, [], _∷_, _++_, map}
+use mathlib.Core.Path.{_≡_, refl}
+use Prim.Native.Nat.{ℕ}
+use lib.ListN.{take, drop, set}
+use Rattle.lines.specs.Numerals.{digit, digits, decimals}
+use Rattle.lines.specs.Lines.{fits, line}
+use Rattle.lines.specs.Reading.{worth, run, value, begins, digitsRead, valueRead, readValue, behind, readLine}
+use Rattle.jobs.specs.declared.Reading.the-variants.{Sound, Bad}
+use Rattle.jobs.specs.Layout.{Job, hasWords, ruleAt, linesFrom, inTurn, valuesOf, textOf}
+use Rattle.jobs.specs.Reading.{readFrom, placeLines, headsIn, linesIn, placesIn, valuesIn, usedIn, reading, jobOf}
+
+-- document 01's job
+abbrev documentJob : Job
+documentJob =
+    record {
+      p = 4;
+      emax = 15;
+      sub = 1;
+      mode = 7;
+      r = 3;
+      xs = 4614148924473606144 ∷ 4614148924473606144 ∷ [];
+      ws = 4 ∷ 5 ∷ [];
+    }
+
+-- and its text, a line a row
+abbrev documentText : List ℕ
+documentText =
+    112 ∷ 61 ∷ 52 ∷ 10  -- p=4
+    ∷ 101 ∷ 109 ∷ 97 ∷ 120 ∷ 61 ∷ 49 ∷ 53 ∷ 10  -- emax=15
+    ∷ 115 ∷ 117 ∷ 98 ∷ 61 ∷ 49 ∷ 10  -- sub=1
+    ∷ 109 ∷ 111 ∷ 100 ∷ 101 ∷ 61 ∷ 55 ∷ 10  -- mode=7
+    ∷ 114 ∷ 61 ∷ 51 ∷ 10  -- r=3
+    ∷ 110 ∷ 61 ∷ 50 ∷ 10  -- n=2
+    ∷ 120 ∷ 61 ∷ 52 ∷ 48 ∷ 48 ∷ 56 ∷ 67 ∷ 48 ∷ 48 ∷ 48 ∷ 48 ∷ 48 ∷ 48 ∷ 48 ∷ 48 ∷ 48 ∷ 48 ∷ 48 ∷ 10  -- x=4008C00000000000
+    ∷ 119 ∷ 61 ∷ 48 ∷ 48 ∷ 48 ∷ 48 ∷ 48 ∷ 48 ∷ 48 ∷ 48 ∷ 48 ∷ 48 ∷ 48 ∷ 48 ∷ 48 ∷ 48 ∷ 48 ∷ 52 ∷ 10  -- w=0000000000000004
+    ∷ 120 ∷ 61 ∷ 52 ∷ 48 ∷ 48 ∷ 56 ∷ 67 ∷ 48 ∷ 48 ∷ 48 ∷ 48 ∷ 48 ∷ 48 ∷ 48 ∷ 48 ∷ 48 ∷ 48 ∷ 48 ∷ 10  -- x=4008C00000000000
+    ∷ 119 ∷ 61 ∷ 48 ∷ 48 ∷ 48 ∷ 48 ∷ 48 ∷ 48 ∷ 48 ∷ 48 ∷ 48 ∷ 48 ∷ 48 ∷ 48 ∷ 48 ∷ 48 ∷ 48 ∷ 53 ∷ 10  -- w=0000000000000005
+    ∷ []
+
+-- the text of the job is document 01's
+text : textOf documentJob ≡ documentText
+unfolding textOf valuesOf inTurn hasWords linesFrom ruleAt line digits digit decimals
+text = refl
+
+-- it is read as that job
+sound : reading documentText ≡ Sound
+unfolding reading valuesIn usedIn headsIn placesIn linesIn placeLines readFrom hasWords ruleAt readLine behind begins readValue valueRead digitsRead value run worth fits decimals
+sound = refl
+
+values : jobOf (valuesIn documentText) ≡ documentJob
+unfolding jobOf valuesIn headsIn placesIn linesIn placeLines readFrom hasWords ruleAt readLine behind begins readValue valueRead digitsRead value run worth fits decimals
+values = refl
+
+-- And these are not: no text; the first line unended; p=04; mode=3 with its w lines; a lower-case digit in the last w; the last line
+-- unended; the last line missing; a line feed more.
+bad :
+    map reading
+    ([]
+    ∷ take 3 documentText
+    ∷ (112 ∷ 61 ∷ 48 ∷ drop 2 documentText)
+    ∷ set documentText 23 51
+    ∷ set documentText 107 97
+    ∷ take 108 documentText
+    ∷ take 90 documentText
+    ∷ (documentText ++ (10 ∷ []))
+    ∷ [])
+    ≡ Bad 1 ∷ Bad 1 ∷ Bad 1 ∷ Bad 8 ∷ Bad 10 ∷ Bad 10 ∷ Bad 10 ∷ Bad 11 ∷ []
+unfolding reading valuesIn usedIn headsIn placesIn linesIn placeLines readFrom hasWords ruleAt readLine behind begins readValue valueRead digitsRead value run worth fits decimals
+bad = refl

@@ -1,0 +1,30 @@
+-- What holds of the answers to all texts, as whole statements. Assumes nothing.
+use mathlib.Core.List.{List}
+use mathlib.Core.Path.{_≡_}
+use Prim.Native.Nat.{ℕ, _<_}
+use lib.ListN.{take}
+use Rattle.jobs.specs.Layout.{Job, InRange, textOf}
+use Rattle.jobs.specs.BadLines.{FirstBad}
+use Rattle.jobs.specs.Facts.{longestText}
+use Rattle.jobtext.specs.Answers.{refused}
+use Rattle.jobtext.specs.Runs.{answerOf, answerTo}
+
+-- a job's text is answered by the job's answer
+abbrev pub JobsAreAnswered : Type 0
+JobsAreAnswered = (j : Job) → InRange j → answerTo (textOf j) ≡ answerOf j
+
+-- a text with a first bad line is refused as 12 with that line
+abbrev pub BadLinesAreRefused : Type 0
+BadLinesAreRefused = (s : List ℕ) (k : ℕ) → FirstBad s k → answerTo s ≡ refused 12 k
+
+-- every text is one or the other
+pub data JobOrBad (s : List ℕ) : Type 0 where
+  job : (j : Job) → InRange j → s ≡ textOf j → JobOrBad s
+  bad : (k : ℕ) → FirstBad s k → JobOrBad s
+
+abbrev pub EveryTextIsEither : Type 0
+EveryTextIsEither = (s : List ℕ) → JobOrBad s
+
+-- a text may be cut behind the length of the longest job's
+abbrev pub LongTextsAnswerAlike : Type 0
+LongTextsAnswerAlike = (s : List ℕ) (m : ℕ) → longestText < m → answerTo (take m s) ≡ answerTo s

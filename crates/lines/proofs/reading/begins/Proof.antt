@@ -1,0 +1,37 @@
+-- `lines::reading::begins` meets its contract. Assumes nothing.
+use mathlib.Core.Path.{_≡_}
+use Prim.Native.Nat.{_-_, _≤_}
+use lib.ListN.{length, drop}
+use borrow.Author.Needs.{needs}
+use Rattle.lines.specs.Reading.{begins}
+use Rattle.lines.proofs.Keys.{key-longer, none-compared, another-byte, same-byte, all-compared}
+use Rattle.lines.proofs.reading.begins.Statement.{statement}
+use Rattle.lines.proofs.reading.begins.Tie as tie
+
+abbrev Inv-loop : tie.InvT-loop
+Inv-loop s key i₀ i = (length key ≤ length s) × (begins key s ≡ begins (drop i key) (drop i s))
+
+abbrev μ-loop : tie.MeasureT-loop
+μ-loop s key i₀ i = length key - i
+
+loop-holds : tie.Need-loop-holds Inv-loop μ-loop
+loop-holds c = (search needs, search none-compared)
+
+loop-again : tie.Need-loop-again Inv-loop μ-loop
+loop-again c = (search needs, search same-byte)
+
+pub begins-spec : {M : Type 1} → statement M
+begins-spec =
+    tie.close
+    (tie.spec
+    Inv-loop
+    μ-loop
+    (λ c. search key-longer)
+    loop-holds
+    (λ c. search needs)
+    (λ c. search needs)
+    (λ c. search another-byte)
+    (λ c. search needs)
+    (λ c. search needs)
+    loop-again
+    (λ c. search all-compared))
