@@ -14,9 +14,10 @@ use Rattle.jobs.specs.declared.Reading.the-variants.{Sound, Bad}
 use Rattle.jobs.specs.Layout.{Job, InRange, textOf}
 use Rattle.jobs.specs.BadLines.{firstLines, GoodLines, FirstBad}
 use Rattle.jobs.specs.Reading.{valuesIn, reading, jobOf}
-use Rattle.jobs.specs.Facts.{ReadAreJobs, NamedIsFirstBad, FirstBadIsNamed, longestText, LongTextsAreCut}
+use Rattle.jobs.specs.Facts.{longestText, LongTextsAreCut}
 use Rattle.jobs.proofs.Starts.{length-firstLines, times-cut, cut-keeps-lines, cut-keeps-ends, ended-lines-kept}
 use Rattle.jobs.proofs.Sizes.{jobs-are-short}
+use Rattle.jobs.proofs.Facts.{read-are-jobs, named-is-first-bad, first-bad-is-named}
 
 -- good lines take no more bytes than a job's text can
 good-lines-are-short : (s : List ℕ) (k : ℕ) → GoodLines s k → length (firstLines k s) ≤ longestText
@@ -61,17 +62,16 @@ module _ (s : List ℕ) (m : ℕ) (enough : longestText < m) where
         no-job = long-is-no-job (take m s) (omega (arith, length-take-le m s long));
       }
 
-module _ (read-are-jobs : ReadAreJobs) (named-is-first-bad : NamedIsFirstBad) (first-bad-is-named : FirstBadIsNamed) where
-  -- so the text cut short reads as the whole one does
-  pub long-texts-are-cut : LongTextsAreCut
-  long-texts-are-cut s m enough = go (below-or-not m (length s))
-    where
-      by-reading : m < length s → (a : Reading) → reading s ≡ a → reading (take m s) ≡ reading s
-      by-reading long Sound e =
-          absurd (long-is-no-job s (omega arith) (jobOf (valuesIn s)) (read-are-jobs s e .0) (read-are-jobs s e .1))
-      by-reading long (Bad k) e =
-          first-bad-is-named (take m s) k (cut-first-bad s m enough (le-of-lt long) k (named-is-first-bad s k e)) ∙ sym e
+-- so the text cut short reads as the whole one does
+pub long-texts-are-cut : LongTextsAreCut
+long-texts-are-cut s m enough = go (below-or-not m (length s))
+  where
+    by-reading : m < length s → (a : Reading) → reading s ≡ a → reading (take m s) ≡ reading s
+    by-reading long Sound e =
+        absurd (long-is-no-job s (omega arith) (jobOf (valuesIn s)) (read-are-jobs s e .0) (read-are-jobs s e .1))
+    by-reading long (Bad k) e =
+        first-bad-is-named (take m s) k (cut-first-bad s m enough (le-of-lt long) k (named-is-first-bad s k e)) ∙ sym e
 
-      go : (m < length s) ⊎ (length s ≤ m) → reading (take m s) ≡ reading s
-      go (inl long) = by-reading long (reading s) refl
-      go (inr short) = ap reading (take-all m s short)
+    go : (m < length s) ⊎ (length s ≤ m) → reading (take m s) ≡ reading s
+    go (inl long) = by-reading long (reading s) refl
+    go (inr short) = ap reading (take-all m s short)

@@ -1,10 +1,14 @@
 // Reading a text, line after line.
+ghost use mathlib.Core.Bool.{cond, _&&_};
 ghost use mathlib.Core.Path.{_≡_};
-ghost use Prim.Native.Nat.{_+_, _-_, _≤_};
+ghost use Prim.Native.Nat.{suc, _+_, _-_, _≤_};
+ghost use lib.Dec.{eqb};
 ghost use lib.ListN.{length, drop};
+ghost use lib.Seq.{sets};
 ghost use Rattle.laws.specs.Lists.{over};
+ghost use Rattle.jobs.specs.declared.Reading.the-variants.{Sound, Bad};
 ghost use Rattle.jobs.specs.Layout.{hasWords};
-ghost use Rattle.jobs.specs.Reading.{lineAt, readFrom, valuesIn, reading};
+ghost use Rattle.jobs.specs.Reading.{lineAt, readFrom, placeLines, valuesIn, reading};
 use super::Reading;
 use lines::Form;
 use lines::Found;
@@ -58,26 +62,64 @@ fn read_at(s: &[u8], i: usize, words: bool) -> Found
     }
 }
 
-// The lines behind what is reached, up to `last`, as far as they are as laid out: line i's value to place
-// i of values.
+// The lines from `line` up to `last`, which begin at the byte `at`, as far as they are as laid out: line
+// i's value to place i of values. How far that reaches.
 fn read_lines(
     text: &[u8],
-    start: Reached,
+    line: usize,
+    at: usize,
     last: usize,
     words: bool,
-    values: &mut [u64; 2054],
-) -> Reached {
-    let mut line = start.line;
-    let mut at = start.at;
+    values: &mut [u64],
+) -> Reached
+    requires order { ⌜ line ≤ last ⌝ }
+    requires room { ⌜ last ≤ length (now values) ⌝ }
+    requires within { ⌜ at ≤ length (now text) ⌝ }
+    ensures few { λ y. ⌜ y .line ≤ last ⌝ }
+    ensures lines { λ y. ⌜ y .line ≡ line + length (readFrom words line (last - line) (drop at (now (text .entry))) .values) ⌝ }
+    ensures bytes { λ y. ⌜ y .at ≡ at + readFrom words line (last - line) (drop at (now (text .entry))) .used ⌝ }
+    ensures inside { λ y. ⌜ y .at ≤ length (now (text .entry)) ⌝ }
+    ensures written { λ _. ⌜ now (values .exit) ≡ sets (now (values .entry)) line (readFrom words line (last - line) (drop at (now (text .entry))) .values) ⌝ }
+{
+    let mut line = line;
+    let mut at = at;
     while line < last {
-        let Found::Value(value, used) = read_at(&text[at..], line, words) else {
-            return Reached { line, at };
-        };
-        values[line] = value;
-        line += 1;
-        at += used;
+        match read_at(&text[at..], line, words) {
+            Found::Value(value, used) => {
+                values[line] = value;
+                line += 1;
+                at += used;
+            }
+            Found::Nothing => return Reached { line, at },
+        }
     }
     Reached { line, at }
+}
+
+// How many lines n places take.
+fn place_lines(words: bool, n: u64) -> usize
+    requires { ⌜ n ≤ 1024 ⌝ }
+    ensures lines { λ y. ⌜ y ≡ placeLines words n ⌝ }
+    ensures few { λ y. ⌜ y ≤ 2048 ⌝ }
+{
+    if words {
+        return n as usize * 2;
+    }
+    n as usize
+}
+
+// What a text of so many bytes is that is read so far, of whose lines so many are asked for.
+fn verdict(end: Reached, last: usize, bytes: usize) -> Reading
+    requires { ⌜ end .line ≤ 2054 ⌝ }
+    ensures { λ y. ⌜ y ≡ cond (eqb (end .line) last && eqb (end .at) bytes) Sound (Bad (suc (end .line))) ⌝ }
+{
+    if end.line != last {
+        return Reading::Bad(end.line as u64 + 1);
+    }
+    if end.at != bytes {
+        return Reading::Bad(end.line as u64 + 1);
+    }
+    Reading::Sound
 }
 
 // The values of the lines, as far as these are as laid out, to the start of values, whose end stays as it
@@ -86,20 +128,13 @@ pub fn read_job(text: &[u8], values: &mut [u64; 2054]) -> Reading
     ensures answer { λ y. ⌜ y ≡ reading (now (text .entry)) ⌝ }
     ensures written { λ _. ⌜ now (values .exit) ≡ over (valuesIn (now (text .entry))) (now (values .entry)) ⌝ }
 {
-    let heads = read_lines(text, Reached { line: 0, at: 0 }, HEADS, false, values);
+    let heads = read_lines(text, 0, 0, HEADS, false, values);
     let read = heads.line;
     if read < HEADS {
         return Reading::Bad(read as u64 + 1);
     }
     let words = has_words(values[3]);
-    let per = if words { 2 } else { 1 };
-    let last = HEADS + values[5] as usize * per;
-    let end = read_lines(text, heads, last, words, values);
-    if end.line != last {
-        return Reading::Bad(end.line as u64 + 1);
-    }
-    if end.at != text.len() {
-        return Reading::Bad(end.line as u64 + 1);
-    }
-    Reading::Sound
+    let last = HEADS + place_lines(words, values[5]);
+    let end = read_lines(text, HEADS, heads.at, last, words, values);
+    verdict(end, last, text.len())
 }

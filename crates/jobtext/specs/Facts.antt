@@ -1,8 +1,8 @@
 -- What holds of the answers to all texts, as whole statements. Assumes nothing.
 use mathlib.Core.List.{List}
 use mathlib.Core.Path.{_≡_}
-use Prim.Native.Nat.{ℕ, _<_}
-use lib.ListN.{take}
+use Prim.Native.Nat.{ℕ, _≤_, _<_}
+use lib.ListN.{length, take}
 use Rattle.jobs.specs.Layout.{Job, InRange, textOf}
 use Rattle.jobs.specs.BadLines.{FirstBad}
 use Rattle.jobs.specs.Facts.{longestText}
@@ -28,3 +28,10 @@ EveryTextIsEither = (s : List ℕ) → JobOrBad s
 -- a text may be cut behind the length of the longest job's
 abbrev pub LongTextsAnswerAlike : Type 0
 LongTextsAnswerAlike = (s : List ℕ) (m : ℕ) → longestText < m → answerTo (take m s) ≡ answerTo s
+
+-- a buffer of this many bytes has room for every answer
+abbrev pub longestAnswer : ℕ
+longestAnswer = 19472
+
+abbrev pub AnswersAreShort : Type 0
+AnswersAreShort = (s : List ℕ) → length (answerTo s) ≤ longestAnswer

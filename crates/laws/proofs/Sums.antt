@@ -1,11 +1,11 @@
 -- What lists of numbers add up to: over the numbers below n, and over a list that has each of them once, in any order.
 -- Assumes nothing.
 use mathlib.Core.Bool.{Bool, true, false, cond, _&&_}
-use mathlib.Core.List.{List, [], _∷_, map}
+use mathlib.Core.List.{List, [], _∷_, _++_, map}
 use mathlib.Core.Path.{_≡_, refl, sym, ap, ap₂, _∙_}
 use mathlib.Core.Logic.{_⊎_, inl, inr}
 use Prim.Native.Nat.{ℕ, zero, suc, _+_, _-_, _*_, _≤_, _<_, zero-le, suc-le-suc}
-use native.Mathlib.Nat.{add-zero, zero-add, add-mul, zero-mul, one-mul, suc-mul, zero-sub, le-of-suc-le-suc, not-suc-le-zero}
+use native.Mathlib.Nat.{add-zero, zero-add, add-assoc, add-mul, zero-mul, one-mul, suc-mul, zero-sub, le-of-suc-le-suc, not-suc-le-zero}
 use native.Mathlib.Omega.{arith}
 use lib.Dec.{leb, ltb, eqb, eqb·zero-suc, eqb·suc-zero, eqb·suc-suc}
 use lib.ListN.{length}
@@ -123,6 +123,12 @@ module _ (n : ℕ) (l : List ℕ) (small : every (λ (m : ℕ). ltb m n) l ≡ t
   -- and there are n entries
   pub length-each-once : length l ≡ n
   length-each-once = length-counts l ∙ sum-each-once (λ (i : ℕ). 1) ∙ sum-of-ones n
+
+-- how often a number stands in two lists, one behind the other
+pub times-append : (n : ℕ) (l m : List ℕ) → times n (l ++ m) ≡ times n l + times n m
+unfolding times
+times-append n [] m = sym (zero-add (times n m))
+times-append n (x ∷ l) m = ap (λ (k : ℕ). cond (eqb n x) 1 0 + k) (times-append n l m) ∙ sym (add-assoc (cond (eqb n x) 1 0) (times n l) (times n m))
 
 -- how often a number stands in a list made by a rule
 times-tab : (m n : ℕ) (g : ℕ → ℕ) → times m (tab n g) ≡ sum (tab n (λ (i : ℕ). cond (eqb m (g i)) 1 0))
