@@ -1,0 +1,11 @@
+-- The laws about answers to job texts, a subject a file: printing, running a job, and what holds of every text.
+pub mod Lengths
+pub mod Printed
+pub mod PatternLines
+pub mod WholeAnswers
+pub mod Zeros
+pub mod Spreads
+pub mod Values
+pub mod Texts
+pub mod Facts
+pub mod Unique

@@ -27,7 +27,8 @@ fn print_patterns(ys: &[u64], from: usize, buffer: &mut [u8]) -> usize
 fn print_accepted(ys: &[u64], buffer: &mut [u8]) -> usize
     requires many { ⌜ length (now ys) ≤ 1024 ⌝ }
     requires room { ⌜ length (now buffer) ≡ 19472 ⌝ }
-    ensures { λ y. ⌜ take y (now (buffer .exit)) ≡ accepted (now (ys .entry)) ⌝ }
+    ensures within { λ y. ⌜ y ≤ 19472 ⌝ }
+    ensures written { λ y. ⌜ take y (now (buffer .exit)) ≡ accepted (now (ys .entry)) ⌝ }
 {
     let status = write_line(buffer, b"status=", Form::Number(9999), 0);
     let from = status
@@ -43,7 +44,8 @@ fn print_accepted(ys: &[u64], buffer: &mut [u8]) -> usize
 // The answer to one that is, and its length.
 pub(crate) fn print_refused(number: u64, place: u64, buffer: &mut [u8]) -> usize
     requires { ⌜ length (now buffer) ≡ 19472 ⌝ }
-    ensures { λ y. ⌜ take y (now (buffer .exit)) ≡ refused number place ⌝ }
+    ensures within { λ y. ⌜ y ≤ 19472 ⌝ }
+    ensures written { λ y. ⌜ take y (now (buffer .exit)) ≡ refused number place ⌝ }
 {
     let status = write_line(buffer, b"status=", Form::Number(9999), number);
     status + write_line(&mut buffer[status..], b"at=", Form::Number(9999), place)
@@ -53,7 +55,8 @@ pub(crate) fn print_refused(number: u64, place: u64, buffer: &mut [u8]) -> usize
 pub(crate) fn print_report(report: Report, ys: &[u64], buffer: &mut [u8]) -> usize
     requires many { ⌜ length (now ys) ≤ 1024 ⌝ }
     requires room { ⌜ length (now buffer) ≡ 19472 ⌝ }
-    ensures { λ y. ⌜ take y (now (buffer .exit)) ≡ printed report (now (ys .entry)) ⌝ }
+    ensures within { λ y. ⌜ y ≤ 19472 ⌝ }
+    ensures written { λ y. ⌜ take y (now (buffer .exit)) ≡ printed report (now (ys .entry)) ⌝ }
 {
     if report.number == 0 {
         return print_accepted(ys, buffer);
