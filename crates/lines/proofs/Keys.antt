@@ -42,12 +42,8 @@ key-longer key s short = go (begins key s) (begins-within key s)
 -- ---- the loop
 
 module _ (key s : List ℕ) where
-  -- at first no byte is compared,
-  pub none-compared : begins key s ≡ begins (drop 0 key) (drop 0 s)
-  none-compared = refl
-
   module _ (i : ℕ) (so-far : begins key s ≡ begins (drop i key) (drop i s)) where
-    -- then all of the key is, and the text begins with it,
+    -- all of the key is compared, and the text begins with it,
     pub all-compared : length key ≤ i → true ≡ begins key s
     unfolding begins
     all-compared reached = sym (so-far ∙ ap (λ (k : List ℕ). begins k (drop i s)) (drop-of-length-le key reached))

@@ -1,6 +1,6 @@
 -- The loop that lays bytes over a buffer, from the first to the last. Assumes nothing.
 use mathlib.Core.List.{List, _++_}
-use mathlib.Core.Path.{_≡_, refl, sym, ap, _∙_}
+use mathlib.Core.Path.{_≡_, sym, ap, _∙_}
 use Prim.Native.Nat.{ℕ, _+_, _≤_, _<_}
 use native.Mathlib.Nat.{le-antisymm}
 use native.Mathlib.Numerals.{add-one}
@@ -13,10 +13,6 @@ module _ (bytes old : List ℕ) where
   -- bytes that are too many change nothing
   pub too-many : length old < length bytes → old ≡ over bytes old
   too-many long = sym (over-long bytes old long)
-
-  -- before the first turn nothing has changed
-  pub none-laid : old ≡ take 0 (over bytes old) ++ drop 0 old
-  none-laid = refl
 
   module _ (fits : length bytes ≤ length old) (out : List ℕ) (i : ℕ) (so-far : out ≡ take i (over bytes old) ++ drop i old) where
     -- a turn lays one byte more

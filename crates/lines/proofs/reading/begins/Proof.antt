@@ -4,7 +4,7 @@ use Prim.Native.Nat.{_-_, _≤_}
 use lib.ListN.{length, drop}
 use borrow.Author.Needs.{needs}
 use Rattle.lines.specs.Reading.{begins}
-use Rattle.lines.proofs.Keys.{key-longer, none-compared, another-byte, same-byte, all-compared}
+use Rattle.lines.proofs.Keys.{key-longer, another-byte, same-byte, all-compared}
 use Rattle.lines.proofs.reading.begins.Statement.{statement}
 use Rattle.lines.proofs.reading.begins.Tie as tie
 
@@ -15,7 +15,7 @@ abbrev μ-loop : tie.MeasureT-loop
 μ-loop s key i₀ i = length key - i
 
 loop-holds : tie.Need-loop-holds Inv-loop μ-loop
-loop-holds c = (search needs, search none-compared)
+loop-holds c = (search needs, search needs)
 
 loop-again : tie.Need-loop-again Inv-loop μ-loop
 loop-again c = (search needs, search same-byte)

@@ -5,7 +5,7 @@ use Prim.Native.Nat.{_-_, _≤_}
 use lib.ListN.{length, take, drop, length-set}
 use borrow.Author.Needs.{needs}
 use Rattle.laws.specs.Lists.{over}
-use Rattle.lines.proofs.Overlaid.{too-many, none-laid, one-more-laid, all-laid}
+use Rattle.lines.proofs.Overlaid.{too-many, one-more-laid, all-laid}
 use Rattle.lines.proofs.writing.lay_over.Statement.{statement}
 use Rattle.lines.proofs.writing.lay_over.Tie as tie
 
@@ -23,7 +23,7 @@ returns : tie.Need-returns Inv-loop μ-loop
 returns c = search too-many
 
 loop-holds : tie.Need-loop-holds Inv-loop μ-loop
-loop-holds c = (search needs, search needs, search needs, search none-laid)
+loop-holds c = (search needs, search needs, search needs, search needs)
 
 loop-again : tie.Need-loop-again Inv-loop μ-loop
 loop-again c = (search needs, search needs, simp length-set (search needs), search one-more-laid)
