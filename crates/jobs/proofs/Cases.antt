@@ -11,7 +11,7 @@ use Rattle.jobs.specs.Layout.{Job, hasWords, ruleAt, linesFrom, inTurn, 
 use Rattle.jobs.specs.Reading.{readFrom, placeLines, headsIn, linesIn, placesIn, valuesIn, usedIn, reading, jobOf}
 
 -- document 01's job
-abbrev documentJob : Job
+abbrev pub documentJob : Job
 documentJob =
     record {
       p = 4;
@@ -19,12 +19,12 @@ documentJob =
       sub = 1;
       mode = 7;
       r = 3;
-      xs = 4614148924473606144 ∷ 4614148924473606144 ∷ [];
+      xs = 0x4008_C000_0000_0000 ∷ 0x4008_C000_0000_0000 ∷ [];
       ws = 4 ∷ 5 ∷ [];
     }
 
 -- and its text, a line a row
-abbrev documentText : List ℕ
+abbrev pub documentText : List ℕ
 documentText =
     112 ∷ 61 ∷ 52 ∷ 10  -- p=4
     ∷ 101 ∷ 109 ∷ 97 ∷ 120 ∷ 61 ∷ 49 ∷ 53 ∷ 10  -- emax=15

@@ -55,9 +55,9 @@ module _ (s : List ℕ) (m : ℕ) (enough : longestText < m) where
   cut-first-bad : m ≤ length s → (k : ℕ) → FirstBad s k → FirstBad (take m s) k
   cut-first-bad long k f =
       record {
-        line = f .line;
+        earlier = f .earlier;
         counted = f .counted;
-        before = cut-is-good (f .line) (f .before);
+        before = cut-is-good (f .earlier) (f .before);
         bad = λ g. f .bad (good-by-cut k g);
         no-job = long-is-no-job (take m s) (omega (arith, length-take-le m s long));
       }

@@ -30,7 +30,7 @@ read-are-jobs s sound = (read-range s, sound-text s sound)
 pub named-is-first-bad : NamedIsFirstBad
 named-is-first-bad s k bad =
     record {
-      line = length (valuesIn s);
+      earlier = length (valuesIn s);
       counted = named s k bad;
       before = read-good s;
       bad = λ (good : GoodLines s k). omega (arith, named s k bad, good-read s k good);

@@ -34,7 +34,7 @@ good-fewer s k m few good =
 -- so no first bad line comes before another
 bad-not-later : (s : List ℕ) (k m : ℕ) → FirstBad s k → FirstBad s m → m ≤ k
 bad-not-later s k m one other =
-    le-of-not-lt (λ (before : k < m). one .bad (good-fewer s k (other .line) (omega (arith, other .counted)) (other .before)))
+    le-of-not-lt (λ (before : k < m). one .bad (good-fewer s k (other .earlier) (omega (arith, other .counted)) (other .before)))
 
 -- and there is only one
 pub bad-once : (s : List ℕ) (k m : ℕ) → FirstBad s k → FirstBad s m → k ≡ m

@@ -22,11 +22,11 @@ pub record GoodLines (s : List ℕ) (k : ℕ) : Type 0 where
   pub in-range : InRange job
   pub same : firstLines k (textOf job) ≡ firstLines k s
 
--- Line k, counted from 1, is the first bad one: the lines before it are good, and with it they are not; or all lines are good and
--- there is something behind them. Either way the text is no job's.
+-- Line k, counted from 1, is the first bad one: the lines before it are good, and with it they are not, since it is missing, unended,
+-- not as laid out or surplus. A job's own text has no bad line, though no line follows its last.
 pub record FirstBad (s : List ℕ) (k : ℕ) : Type 0 where
-  pub line : ℕ
-  pub counted : k ≡ suc line
-  pub before : GoodLines s line
+  pub earlier : ℕ
+  pub counted : k ≡ suc earlier
+  pub before : GoodLines s earlier
   pub bad : GoodLines s k → ⊥
   pub no-job : (j : Job) → InRange j → s ≡ textOf j → ⊥

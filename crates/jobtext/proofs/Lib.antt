@@ -1,4 +1,5 @@
--- The laws about answers to job texts, a subject a file: printing, running a job, and what holds of every text.
+-- The laws about answers to job texts, a subject a file: printing, running a job, what holds of every text, and
+-- closed cases.
 pub mod Lengths
 pub mod Printed
 pub mod PatternLines
@@ -9,3 +10,4 @@ pub mod Values
 pub mod Texts
 pub mod Facts
 pub mod Unique
+pub mod Cases
