@@ -1,11 +1,12 @@
 #!/usr/bin/env bash
 # Each must-fail edit is of src/ or specs/, and has to be refused at a promise or a fact.
 # For an edit of src/ a complaint of the prover is about a need named `returns`, `returns-2`, .., or
-# about what a loop has written so far (`FilledTo` in a need named `loop-holds` or `loop-again`), and
-# every other one is of that kind too or follows from it ("was not admitted"). A complaint about a sum
-# that may not fit, or about a proof file that no longer has the right needs, shows nothing about the
-# answer. That the edited answer is wrong, and not only another way to the right one, the prover cannot
-# say: the edit's first line has to name the rule that it breaks.
+# about what a loop has written so far (`FilledTo`, or the start of a list laid over another,
+# `take .. (over ..`, in a need named `loop-holds` or `loop-again`), and every other one is of that kind
+# too or follows from it ("was not admitted"). A complaint about a sum that may not fit, or about a proof
+# file that no longer has the right needs, shows nothing about the answer. That the edited answer is
+# wrong, and not only another way to the right one, the prover cannot say: the edit's first line has to
+# name the rule that it breaks.
 # For an edit of specs/ a fact that docs/PROMISES.md lists is not proved any more, every complaint is
 # that a law does not hold, and one of those laws is a closed case (proofs/Cases.antt): the definition
 # computes to something else, and is not only said in another way.
@@ -15,7 +16,7 @@ set -euo pipefail
 unset CDPATH
 cd "$(dirname "$0")/.."
 
-at_a_promise='(error: |\()`returns(-[0-9]+)?`|error: `loop-(holds|again)(-[0-9]+)?`: `search`: no proof of `FilledTo '
+at_a_promise='(error: |\()`returns(-[0-9]+)?`|error: `loop-(holds|again)(-[0-9]+)?`: `search`: no proof of `(FilledTo |.* ≡ take .* \(over )'
 at_a_law='proofs/[A-Za-z]+\.antt:[0-9]+:[0-9]+: error: `[^`]*`: ((as printed|computed as far as they go), the two types (first )?differ|`omega`: the goal does not follow|`search`: no proof of)'
 follows='was not admitted'
 

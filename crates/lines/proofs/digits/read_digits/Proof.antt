@@ -21,6 +21,15 @@ loop-holds c = (search needs, search none-read, search none-worth, search none-b
 loop-again : tie.Need-loop-again Inv-loop μ-loop
 loop-again c = (search needs, search one-more-read, search one-more-worth, search one-more-below)
 
+returns : tie.Need-returns Inv-loop μ-loop
+returns c = (search most-read, search needs)
+
+returns-2 : tie.Need-returns-2 Inv-loop μ-loop
+returns-2 c = (search text-read, search needs)
+
+returns-3 : tie.Need-returns-3 Inv-loop μ-loop
+returns-3 c = (search digits-read, search needs)
+
 pub read-digits-spec : {M : Type 1} → statement M
 read-digits-spec =
     tie.close
@@ -35,6 +44,6 @@ read-digits-spec =
     (λ c. search needs)
     (λ c. search needs)
     loop-again
-    (λ c. (search most-read, search needs))
-    (λ c. (search text-read, search needs))
-    (λ c. (search digits-read, search needs)))
+    returns
+    returns-2
+    returns-3)

@@ -20,18 +20,27 @@ loop-holds c = (search needs, search needs)
 loop-again : tie.Need-loop-again Inv-loop μ-loop
 loop-again c = (search needs, search same-byte)
 
+returns : tie.Need-returns Inv-loop μ-loop
+returns c = search key-longer
+
+returns-2 : tie.Need-returns-2 Inv-loop μ-loop
+returns-2 c = search another-byte
+
+returns-3 : tie.Need-returns-3 Inv-loop μ-loop
+returns-3 c = search all-compared
+
 pub begins-spec : {M : Type 1} → statement M
 begins-spec =
     tie.close
     (tie.spec
     Inv-loop
     μ-loop
-    (λ c. search key-longer)
+    returns
     loop-holds
     (λ c. search needs)
     (λ c. search needs)
-    (λ c. search another-byte)
+    returns-2
     (λ c. search needs)
     (λ c. search needs)
     loop-again
-    (λ c. search all-compared))
+    returns-3)
