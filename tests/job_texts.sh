@@ -36,6 +36,9 @@ listed=$(grep -c '^| \[' examples/README.md)
 there=$(find examples -name '*.job' | wc -l)
 [ "$listed" -eq "$there" ] || fail "examples/README.md lists $listed examples, and there are $there"
 
+# the program is built first, where it is not yet
+"$command" examples/document-01.job >/dev/null
+
 # several files are answered in turn, and one that is not there stops all before the first
 cat examples/ties-*.answer >"$room/due"
 "$command" examples/ties-*.job >"$room/out" 2>"$room/err"
