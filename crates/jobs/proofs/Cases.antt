@@ -11,7 +11,7 @@ use Rattle.jobs.specs.Layout.{Job, hasWords, ruleAt, linesFrom, inTurn, 
 use Rattle.jobs.specs.Reading.{readFrom, placeLines, headsIn, linesIn, placesIn, valuesIn, usedIn, reading, jobOf}
 
 -- document 01's job
-abbrev pub documentJob : Job
+abbrev documentJob : Job
 documentJob =
     record {
       p = 4;
@@ -68,3 +68,37 @@ bad :
     ≡ Bad 1 ∷ Bad 1 ∷ Bad 1 ∷ Bad 8 ∷ Bad 10 ∷ Bad 10 ∷ Bad 10 ∷ Bad 11 ∷ []
 unfolding reading valuesIn usedIn headsIn placesIn linesIn placeLines readFrom hasWords ruleAt readLine behind begins readValue valueRead digitsRead value run worth fits decimals
 bad = refl
+
+-- ---- six lines and no places
+
+-- sub, the mode and n as they are given, between p=4, emax=15 and r=3
+abbrev sixLines : List ℕ → List ℕ → List ℕ → List ℕ
+sixLines sub mode n =
+    take 12 documentText
+    ++ (115 ∷ 117 ∷ 98 ∷ 61 ∷ sub)  -- sub=
+    ++ (10 ∷ 109 ∷ 111 ∷ 100 ∷ 101 ∷ 61 ∷ mode)  -- mode=
+    ++ (10 ∷ 114 ∷ 61 ∷ 51 ∷ 10 ∷ 110 ∷ 61 ∷ n)  -- r=3, n=
+    ++ (10 ∷ [])
+
+-- With n=0 modes 7, 9 and 9999 are read alike; not so sub=01, n=1025, CR LF behind the mode, and a byte that follows.
+six-lines :
+    map reading
+    (sixLines (49 ∷ []) (55 ∷ []) (48 ∷ [])
+    ∷ sixLines (49 ∷ []) (57 ∷ []) (48 ∷ [])
+    ∷ sixLines (48 ∷ []) (57 ∷ 57 ∷ 57 ∷ 57 ∷ []) (48 ∷ [])
+    ∷ sixLines (48 ∷ 49 ∷ []) (55 ∷ []) (48 ∷ [])
+    ∷ sixLines (49 ∷ []) (55 ∷ []) (49 ∷ 48 ∷ 50 ∷ 53 ∷ [])
+    ∷ sixLines (49 ∷ []) (55 ∷ 13 ∷ []) (48 ∷ [])
+    ∷ (sixLines (49 ∷ []) (55 ∷ []) (48 ∷ []) ++ (0 ∷ []))
+    ∷ [])
+    ≡ Sound ∷ Sound ∷ Sound ∷ Bad 3 ∷ Bad 6 ∷ Bad 4 ∷ Bad 7 ∷ []
+unfolding reading valuesIn usedIn headsIn placesIn linesIn placeLines readFrom hasWords ruleAt readLine behind begins readValue valueRead digitsRead value run worth fits decimals
+six-lines = refl
+
+-- and mode 9999 with one input has no word behind it: the w line is surplus
+no-word-above-8 :
+    reading
+    (sixLines (49 ∷ []) (57 ∷ 57 ∷ 57 ∷ 57 ∷ []) (49 ∷ []) ++ drop 33 (take 71 documentText))
+    ≡ Bad 8
+unfolding reading valuesIn usedIn headsIn placesIn linesIn placeLines readFrom hasWords ruleAt readLine behind begins readValue valueRead digitsRead value run worth fits decimals
+no-word-above-8 = refl

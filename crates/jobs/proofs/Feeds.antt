@@ -8,10 +8,11 @@ use native.Mathlib.Omega.{arith}
 use lib.ListN.{length, take}
 use Rattle.laws.specs.Lists.{times}
 use Rattle.lines.specs.Numerals.{digits}
-use Rattle.lines.specs.Lines.{lineFeed, base, width, line}
+use Rattle.lines.specs.Lines.{lineFeed, base, width}
 use Rattle.laws.proofs.Sums.{times-append}
 use Rattle.lines.proofs.Forms.{base-some, base-small}
 use Rattle.lines.proofs.Feeds.{digits-no-feed}
+use Rattle.lines.proofs.Facts.{line-parts}
 use Rattle.jobs.specs.Layout.{ruleAt, linesFrom}
 use Rattle.jobs.specs.BadLines.{firstLines}
 use Rattle.jobs.proofs.Rows.{lineOf}
@@ -23,9 +24,10 @@ abbrev body : Bool → ℕ → ℕ → List ℕ
 body words i v = ruleAt words i .key ++ digits (base (ruleAt words i .form)) (width (ruleAt words i .form) v) v
 
 -- a line is that, and then its line feed
-line-parts : (words : Bool) (i v : ℕ) (t : List ℕ) → lineOf words i v ++ t ≡ body words i v ++ (lineFeed ∷ t)
-unfolding line
-line-parts words i v t = simp append-assoc
+line-ends : (words : Bool) (i v : ℕ) (t : List ℕ) → lineOf words i v ++ t ≡ body words i v ++ (lineFeed ∷ t)
+line-ends words i v t =
+    let rule = ruleAt words i in
+    line-parts (rule .key) (rule .form) v t ∙ sym (append-assoc (rule .key) (digits (base (rule .form)) (width (rule .form) v) v) (lineFeed ∷ t))
 
 -- no other line feed stands in it
 body-no-feed : (words : Bool) (i v : ℕ) → times lineFeed (body words i v) ≡ 0
@@ -40,16 +42,16 @@ body-no-feed words i v =
 -- so a line is one of the first lines,
 first-line : (words : Bool) (i k v : ℕ) (t : List ℕ) → firstLines (suc k) (lineOf words i v ++ t) ≡ lineOf words i v ++ firstLines k t
 first-line words i k v t =
-    ap (λ (l : List ℕ). firstLines (suc k) l) (line-parts words i v t)
+    ap (λ (l : List ℕ). firstLines (suc k) l) (line-ends words i v t)
     ∙ first-over k (body words i v) t (body-no-feed words i v)
-    ∙ sym (line-parts words i v (firstLines k t))
+    ∙ sym (line-ends words i v (firstLines k t))
 
 -- and has one line feed
 line-feed : (words : Bool) (i v : ℕ) (t : List ℕ) → times lineFeed (lineOf words i v ++ t) ≡ suc (times lineFeed t)
 line-feed words i v t =
     omega (
       arith,
-      ap (λ (l : List ℕ). times lineFeed l) (line-parts words i v t),
+      ap (λ (l : List ℕ). times lineFeed l) (line-ends words i v t),
       times-append lineFeed (body words i v) (lineFeed ∷ t),
       body-no-feed words i v,
       times-cons lineFeed t,

@@ -16,7 +16,7 @@ use Rattle.jobs.specs.BadLines.{firstLines}
 -- ---- line feeds
 
 -- how many a byte is
-abbrev pub feed : ℕ → ℕ
+abbrev feed : ℕ → ℕ
 feed b = cond (eqb b lineFeed) 1 0
 
 -- those of a byte and of the text behind it

@@ -19,7 +19,8 @@ use Rattle.jobs.specs.Reading.{Lines, readFrom, placeLines, headsIn, wor
 use Rattle.jobs.proofs.Stored.{stored-in-two, stored-over, stored-at}
 use Rattle.jobs.proofs.Rows.{rows-within, rows-fit}
 use Rattle.jobs.proofs.Whole.{none-asked, no-places}
-use Rattle.jobs.proofs.Ranges.{fits-number, fit-at}
+use Rattle.lines.proofs.Forms.{fits-number}
+use Rattle.jobs.proofs.Ranges.{fit-at}
 
 -- what is said of so many lines and bytes that were read
 abbrev said : ℕ → ℕ → ℕ → ℕ → Reading
@@ -34,8 +35,8 @@ module _ (line last at bytes : ℕ) where
 
   module _ (same : line ≡ last) where
     -- or something is left,
-    pub bytes-left : (at ≡ bytes → ⊥) → Bad (line + 1) ≡ said line last at bytes
-    bytes-left apart = simp (eq-eqb line last same, ne-eqb at bytes apart, add-one)
+    pub bytes-left : (at ≡ bytes → ⊥) → Bad (last + 1) ≡ said line last at bytes
+    bytes-left apart = ap {B = Reading} (λ (n : ℕ). Bad (n + 1)) (sym same) ∙ simp (eq-eqb line last same, ne-eqb at bytes apart, add-one)
 
     -- or nothing is
     pub nothing-left : at ≡ bytes → Sound ≡ said line last at bytes
@@ -56,18 +57,19 @@ module _ (text : List ℕ) (line : ℕ) (counted : line ≡ 0 + length (readFrom
     heads-alone = ap (λ (l : List ℕ). headsIn text .values ++ l) (no-places text few) ∙ append-nil (headsIn text .values)
 
     -- the line behind those that are read is bad
-    pub head-bad : Bad (line + 1) ≡ reading text
+    pub head-bad : (at : ℕ) (y : Reading) → y ≡ said line 6 at (length text) → y ≡ reading text
     unfolding reading headsIn
-    head-bad =
+    head-bad at y answered =
         let many : length (valuesIn text) ≡ line = ap length heads-alone ∙ sym (counted ∙ zero-add _) in
-        let apart : line ≡ 6 + 0 → ⊥ = λ e. omega arith in
-        simp (many, none-asked (headsIn text .values) few, ne-eqb line (6 + 0) apart, add-one)
+        let apart : line ≡ 6 → ⊥ = λ e. omega arith in
+        let apart-too : line ≡ 6 + 0 → ⊥ = λ e. omega arith in
+        answered ∙ simp (many, none-asked (headsIn text .values) few, ne-eqb line 6 apart, ne-eqb line (6 + 0) apart-too)
 
     -- and their values lie over what stood there
-    pub heads-written : (before after : List ℕ) → length before ≡ 2054 → after ≡ sets before 0 (readFrom false 0 6 text .values)
+    pub heads-left : (before after : List ℕ) → length before ≡ 2054 → after ≡ sets before 0 (readFrom false 0 6 text .values)
         → after ≡ over (valuesIn text) before
     unfolding headsIn
-    heads-written before after long stored =
+    heads-left before after long stored =
         stored
         ∙ stored-over (readFrom false 0 6 text .values) before (omega arith)
         ∙ ap (λ (a : List ℕ). over a before) (sym heads-alone)
@@ -96,14 +98,14 @@ module _ (text : List ℕ) (line : ℕ) (counted : line ≡ 0 + length (readFrom
     module _ (words : Bool) (asked : words ≡ hasWords (getD heads 3 0)) (count : ℕ) (needed : count ≡ placeLines words (getD heads 5 0))
         (at : ℕ) (reached : at ≡ 0 + readFrom false 0 6 text .used) where
       -- whether there are words,
-      words-asked : words ≡ wordsIn (headsIn text .values)
+      words-wanted : words ≡ wordsIn (headsIn text .values)
       unfolding headsIn
-      words-asked = asked ∙ ap hasWords (head-at 3 (omega arith))
+      words-wanted = asked ∙ ap hasWords (head-at 3 (omega arith))
 
       -- how many lines there are,
-      lines-asked : count ≡ linesIn (headsIn text .values)
+      lines-wanted : count ≡ linesIn (headsIn text .values)
       unfolding headsIn linesIn
-      lines-asked = needed ∙ ap₂ placeLines words-asked (head-at 5 (omega arith))
+      lines-wanted = needed ∙ ap₂ placeLines words-wanted (head-at 5 (omega arith))
 
       -- and what is read of them
       places-read : readFrom words 6 (6 + count - 6) (drop at text) ≡ placesIn text
@@ -111,7 +113,7 @@ module _ (text : List ℕ) (line : ℕ) (counted : line ≡ 0 + length (readFrom
       places-read =
           let times : 6 + count - 6 ≡ count = omega arith in
           let start : at ≡ readFrom false 0 6 text .used = omega arith in
-          rw (times, start, lines-asked, words-asked)
+          rw (times, start, lines-wanted, words-wanted)
 
       -- what is reached behind them is the end of all that is read
       module _ (end : ℕ) (lines : end ≡ 6 + length (readFrom words 6 (6 + count - 6) (drop at text) .values)) where
@@ -123,13 +125,13 @@ module _ (text : List ℕ) (line : ℕ) (counted : line ≡ 0 + length (readFrom
             ∙ sym (lines ∙ ap₂ (λ m n. m + n) (sym six) (ap (λ (l : Lines). length (l .values)) places-read))
 
         -- the byte, and so the answer,
-        pub all-read : (stop : ℕ) → stop ≡ at + readFrom words 6 (6 + count - 6) (drop at text) .used
+        pub all-answered : (stop : ℕ) → stop ≡ at + readFrom words 6 (6 + count - 6) (drop at text) .used
             → (y : Reading) → y ≡ said end (6 + count) stop (length text) → y ≡ reading text
         unfolding headsIn reading usedIn
-        all-read stop bytes y answered =
+        all-answered stop bytes y answered =
             let used : usedIn text ≡ stop =
             ap₂ (λ m n. m + n) (sym (reached ∙ zero-add _)) (ap (λ (l : Lines). l .used) (sym places-read)) ∙ sym bytes in
-            answered ∙ simp (all-lines, used, ← lines-asked)
+            answered ∙ simp (all-lines, used, ← lines-wanted)
 
         -- and what is stored
         pub all-written : end ≤ 6 + count → count ≤ 2048 → (after : List ℕ) → after ≡ sets heads 6 (readFrom words 6 (6 + count - 6) (drop at text) .values)

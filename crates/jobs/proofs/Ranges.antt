@@ -1,53 +1,20 @@
 -- A job is in range exactly where its values are of the forms of their lines. Assumes nothing.
-use mathlib.Core.Bool.{Bool, true, false, cond, _&&_}
+use mathlib.Core.Bool.{Bool, true, false, cond}
 use mathlib.Core.List.{List, [], _∷_}
-use mathlib.Core.Path.{_≡_, refl, sym, ap, ap₂, _∙_, subst}
+use mathlib.Core.Path.{_≡_, sym, ap, _∙_, subst}
 use Prim.Native.Nat.{ℕ, zero, suc, _+_, _*_, _^_, _≤_, _<_, zero-le, suc-le-suc}
 use native.Mathlib.Nat.{le-of-suc-le-suc, not-suc-le-zero, zero-add, add-zero}
 use native.Mathlib.Omega.{arith}
-use lib.Dec.{leb, ltb, leb·zero}
 use lib.ListN.{length, getD}
-use borrow.Author.Tests.{leb-true, ltb-true, le-leb, lt-ltb}
 use Rattle.laws.specs.Lists.{tab}
 use Rattle.laws.proofs.Lists.{length-tab, getD-tab}
-use Rattle.laws.proofs.Tests.{and-left}
 use Rattle.lines.specs.declared.Form.{Form}
-use Rattle.lines.specs.declared.Form.the-variants.{Number, Word}
 use Rattle.lines.specs.Lines.{fits}
+use Rattle.lines.proofs.Forms.{number-fits, fits-number, word-fits, fits-word, fits-zero}
 use Rattle.jobs.specs.Layout.{Job, InRange, hasWords, ruleAt, inTurn, valuesOf}
 use Rattle.jobs.specs.Reading.{wordsIn, jobOf}
 use Rattle.jobs.proofs.Rows.{Fit}
 use Rattle.jobs.proofs.Rules.{form-behind}
-
--- ---- one value
-
--- a number fits where it is no larger than is said, which is below 10000,
-number-fits : (most n : ℕ) → most ≤ 9999 → n ≤ most → fits (Number most) n ≡ true
-unfolding fits
-number-fits most n few h =
-    let short : n < 10 ^ 4 = omega arith in
-    ap₂ _&&_ (le-leb n most h) (lt-ltb n (10 ^ 4) short)
-
--- and only there
-pub fits-number : (most n : ℕ) → fits (Number most) n ≡ true → n ≤ most
-unfolding fits
-fits-number most n e = leb-true n most (and-left (leb n most) (ltb n (10 ^ 4)) e)
-
--- a word fits where it has 64 bits,
-word-fits : (n : ℕ) → n < 2 ^ 64 → fits Word n ≡ true
-unfolding fits
-word-fits n h = lt-ltb n (2 ^ 64) h
-
--- and only there
-fits-word : (n : ℕ) → fits Word n ≡ true → n < 2 ^ 64
-unfolding fits
-fits-word n e = ltb-true n (2 ^ 64) e
-
--- 0 always fits
-fits-zero : (form : Form) → fits form 0 ≡ true
-unfolding fits
-fits-zero (Number most) = ap (λ (t : Bool). t && true) (leb·zero most)
-fits-zero Word = refl
 
 -- ---- from a job in range
 

@@ -5,13 +5,14 @@ use mathlib.Core.Path.{_≡_, sym, ap, _∙_}
 use Prim.Native.Nat.{ℕ, suc, _+_, _-_, _*_, _^_, _≤_, _<_}
 use native.Mathlib.Numerals.{add-one}
 use native.Mathlib.Omega.{arith}
-use lib.ListN.{length, take, drop, set, length-append, length-drop}
-use lib.Seq.{sets, take-all, drop-drop}
+use lib.ListN.{length, take, drop, set, length-drop}
+use lib.Seq.{sets, drop-drop}
+use borrow.Rule.Slice.PartAt.{part-to-end}
 use mir.Syntax.{w64}
 use mir.Val.{Fits}
 use Rattle.lines.specs.declared.Found.{Found}
 use Rattle.lines.specs.declared.Found.the-variants.{Value, Nothing}
-use Rattle.lines.proofs.Facts.{read-is-written}
+use Rattle.lines.proofs.Facts.{read-ends-within}
 use Rattle.jobs.specs.Layout.{ruleAt}
 use Rattle.jobs.specs.Reading.{Lines, noLines, andThen, lineAt, readFrom}
 
@@ -27,26 +28,15 @@ module _ (words : Bool) (text : List ℕ) (last line at : ℕ) where
       let none : last - line ≡ 0 = omega arith in
       ap (λ (m : ℕ). readFrom words line m (drop at text)) none
 
-  -- the code looks at the part of the text that begins at the byte
-  rest : take (length text - at) (drop at text) ≡ drop at text
-  rest = take-all (length text - at) (drop at text) (omega (arith, length-drop at text))
-
   module _ (y : Found) (looked : y ≡ lineAt words line (take (length text - at) (drop at text))) where
     looked-there : lineAt words line (drop at text) ≡ y
-    looked-there = sym (looked ∙ ap {B = Found} (λ (s : List ℕ). lineAt words line s) rest)
+    looked-there = sym (looked ∙ ap {B = Found} (λ (s : List ℕ). lineAt words line s) (part-to-end text at))
 
     -- a line that is found lies within the text
     pub found-within : (v used : ℕ) → y ≡ Value v used → at ≤ length text → at + used ≤ length text
     found-within v used found within =
-        let key = ruleAt words line .key in
-        let form = ruleAt words line .form in
-        let facts = read-is-written key form (drop at text) v used (looked-there ∙ found) in
-        omega (
-          arith,
-          facts .1,
-          simp length-append at (ap length (facts .0)),
-          length-drop at text,
-        )
+        let ends = read-ends-within (ruleAt words line .key) (ruleAt words line .form) (drop at text) v used (looked-there ∙ found) in
+        omega (arith, ends, length-drop at text)
 
     -- and what is reached with it is a number of the machine
     pub found-fits : (v used : ℕ) → y ≡ Value v used → at ≤ length text → length text * 1 < 2 ^ 63 → Fits w64 (at + used)

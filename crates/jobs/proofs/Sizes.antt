@@ -1,21 +1,24 @@
 -- How long a job's text can be, and how many lines are read of any text. Assumes nothing.
-use mathlib.Core.Bool.{Bool, true, false, cond, _&&_}
+use mathlib.Core.Bool.{Bool, true, false, cond, _&&_, _||_, false≢true}
 use mathlib.Core.List.{List, [], _∷_}
 use mathlib.Core.Path.{_≡_, refl, sym, ap, _∙_}
-use Prim.Native.Nat.{ℕ, suc, _+_, _*_, _%_, _≤_, zero-le}
+use Prim.Native.Nat.{ℕ, suc, _+_, _*_, _%_, _≤_}
 use native.Mathlib.Omega.{arith}
 use lib.Dec.{eqb}
 use lib.ListN.{length, getD, length-append}
+use borrow.Author.Tests.{eqb-true}
+use Rattle.lines.specs.Numerals.{decimals}
 use Rattle.lines.specs.declared.Form.the-variants.{Word}
 use Rattle.lines.specs.Lines.{line}
 use Rattle.lines.proofs.Bytes.{decimals-one}
-use Rattle.lines.proofs.Forms.{decimals-most}
+use Rattle.lines.proofs.Forms.{decimals-most, fits-number}
 use Rattle.lines.proofs.Lengths.{length-line}
 use Rattle.jobs.specs.Layout.{Rule, hasWords, input, randomWord, ruleAt, linesFrom, inTurn, valuesOf, textOf}
 use Rattle.jobs.specs.Reading.{placeLines, wordsIn, linesIn, valuesIn}
-use Rattle.jobs.specs.Facts.{JobsAreShort, LinesAreFew}
+use Rattle.jobs.specs.Facts.{longestText, JobsAreShort, LinesAreFew}
 use Rattle.jobs.proofs.Rules.{place-rule}
-use Rattle.jobs.proofs.Ranges.{fits-number, fit-at}
+use Rattle.jobs.proofs.Values.{length-places}
+use Rattle.jobs.proofs.Ranges.{fit-at}
 use Rattle.jobs.proofs.Whole.{values-within, values-fit}
 use Rattle.jobs.proofs.Readings.{named}
 
@@ -31,54 +34,57 @@ length-place words i v h =
     go false = length-line (input .key) Word v
 
 -- and so does each of those that follow
-length-places : (words : Bool) (i : ℕ) (vs : List ℕ) → 6 ≤ i → length (linesFrom words i vs) ≡ length vs * 19
+length-rows : (words : Bool) (i : ℕ) (vs : List ℕ) → 6 ≤ i → length (linesFrom words i vs) ≡ length vs * 19
 unfolding linesFrom
-length-places words i [] h = refl
-length-places words i (v ∷ vs) h =
+length-rows words i [] h = refl
+length-rows words i (v ∷ vs) h =
     length-append (line (ruleAt words i .key) (ruleAt words i .form) v) (linesFrom words (suc i) vs)
-    ∙ omega (arith, length-place words i v h, length-places words (suc i) vs (omega arith))
+    ∙ omega (arith, length-place words i v h, length-rows words (suc i) vs (omega arith))
 
--- inputs with their words are two values for each input at most,
-length-inTurn : (xs ws : List ℕ) → length (inTurn xs ws) ≤ length xs * 2
-unfolding inTurn
-length-inTurn [] ws = zero-le
-length-inTurn (x ∷ xs) [] = zero-le
-length-inTurn (x ∷ xs) (w ∷ ws) = omega (arith, length-inTurn xs ws)
-
--- and so are the inputs, with words or without
-length-of-places : (words : Bool) (xs ws : List ℕ) → length (cond words (inTurn xs ws) xs) ≤ length xs * 2
-length-of-places true xs ws = length-inTurn xs ws
-length-of-places false xs ws = omega arith
-
--- the six lines take 47 bytes at most, and those behind them 19 each
+-- the six lines take 43 bytes at most beside the mode's digits, and those behind them 19 each
 length-text : (words : Bool) (p emax sub mode r n : ℕ) (vs : List ℕ) → sub ≤ 1
-    → length (linesFrom words 0 (p ∷ emax ∷ sub ∷ mode ∷ r ∷ n ∷ vs)) ≤ 47 + length vs * 19
+    → length (linesFrom words 0 (p ∷ emax ∷ sub ∷ mode ∷ r ∷ n ∷ vs)) ≤ 43 + decimals mode + length vs * 19
 unfolding linesFrom ruleAt
 length-text words p emax sub mode r n vs h =
     simp (length-append, length-line)
     (omega (
       arith,
-      length-places words 6 vs (omega arith),
+      length-rows words 6 vs (omega arith),
       decimals-most p,
       decimals-most emax,
       sym (decimals-one sub (omega arith)),
-      decimals-most mode,
       decimals-most r,
       decimals-most n,
     ))
+
+-- a mode that has words has one digit
+words-mode-short : (mode : ℕ) → hasWords mode ≡ true → decimals mode ≡ 1
+unfolding hasWords
+words-mode-short mode has = go (eqb mode 7) refl (eqb mode 8) refl has
+  where
+    go : (seven : Bool) → eqb mode 7 ≡ seven → (eight : Bool) → eqb mode 8 ≡ eight → (seven || eight) ≡ true → decimals mode ≡ 1
+    go true e eight f has = sym (decimals-one mode (omega (arith, eqb-true mode 7 e)))
+    go false e true f has = sym (decimals-one mode (omega (arith, eqb-true mode 8 f)))
+    go false e false f has = absurd (false≢true has)
 
 -- no job's text is longer than is said
 pub jobs-are-short : JobsAreShort
 unfolding textOf valuesOf
 jobs-are-short j fit =
-    let words = hasWords (j .mode) in
-    let places = cond words (inTurn (j .xs) (j .ws)) (j .xs) in
-    omega (
-      arith,
-      length-text words (j .p) (j .emax) (j .sub) (j .mode) (j .r) (length (j .xs)) places (fit .subnormals),
-      length-of-places words (j .xs) (j .ws),
-      fit .many,
-    )
+    go (hasWords (j .mode)) (words-mode-short (j .mode))
+    (length-text (hasWords (j .mode)) (j .p) (j .emax) (j .sub) (j .mode) (j .r) (length (j .xs)) (places (hasWords (j .mode))) (fit .subnormals))
+    (length-places (hasWords (j .mode)) (j .xs) (j .ws) (fit .a-word-each))
+  where
+    places : Bool → List ℕ
+    places words = cond words (inTurn (j .xs) (j .ws)) (j .xs)
+
+    text : Bool → ℕ
+    text words = length (linesFrom words 0 (j .p ∷ j .emax ∷ j .sub ∷ j .mode ∷ j .r ∷ length (j .xs) ∷ places words))
+
+    go : (words : Bool) → (words ≡ true → decimals (j .mode) ≡ 1) → text words ≤ 43 + decimals (j .mode) + length (places words) * 19
+        → length (places words) ≡ length (j .xs) * cond words 2 1 → text words ≤ longestText
+    go true short long many = omega (arith, short refl, long, many, fit .many)
+    go false short long many = omega (arith, decimals-most (j .mode), long, many, fit .many)
 
 -- ---- how many lines are read
 

@@ -25,7 +25,7 @@ places words xs ws = cond words (inTurn xs ws) xs
 
 module _ (words : Bool) (xs ws : List ℕ) (each : length ws ≡ cond words (length xs) 0) where
   -- how many there are
-  length-places : length (places words xs ws) ≡ length xs * cond words 2 1
+  pub length-places : length (places words xs ws) ≡ length xs * cond words 2 1
   length-places = go words each
     where
       go : (b : Bool) → length ws ≡ cond b (length xs) 0 → length (places b xs ws) ≡ length xs * cond b 2 1

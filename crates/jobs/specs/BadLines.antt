@@ -23,7 +23,8 @@ pub record GoodLines (s : List ℕ) (k : ℕ) : Type 0 where
   pub same : firstLines k (textOf job) ≡ firstLines k s
 
 -- Line k, counted from 1, is the first bad one: the lines before it are good, and with it they are not, since it is missing, unended,
--- not as laid out or surplus. A job's own text has no bad line, though no line follows its last.
+-- not as laid out or surplus. `earlier` is how many those before it are. A job's own text has no bad line, though no line follows
+-- its last.
 pub record FirstBad (s : List ℕ) (k : ℕ) : Type 0 where
   pub earlier : ℕ
   pub counted : k ≡ suc earlier

@@ -24,16 +24,17 @@ NamedIsFirstBad = (s : List ℕ) (k : ℕ) → reading s ≡ Bad k → FirstBad 
 abbrev pub FirstBadIsNamed : Type 0
 FirstBadIsNamed = (s : List ℕ) (k : ℕ) → FirstBad s k → reading s ≡ Bad k
 
--- how long a job's text can be, and how far a line number can go
+-- how long a job's text can be: with words a mode has one digit, and 1024 places take 38 bytes each
 abbrev pub longestText : ℕ
-longestText = 38959
+longestText = 38956
 
 abbrev pub JobsAreShort : Type 0
 JobsAreShort = (j : Job) → InRange j → length (textOf j) ≤ longestText
 
+-- how far a line number can go: one line behind the last of 2054
 abbrev pub LinesAreFew : Type 0
 LinesAreFew = (s : List ℕ) (k : ℕ) → reading s ≡ Bad k → k ≤ 2055
 
--- so nothing behind that length counts, but that there is something
+-- so of a longer text it is enough to see a start that is longer too
 abbrev pub LongTextsAreCut : Type 0
 LongTextsAreCut = (s : List ℕ) (m : ℕ) → longestText < m → reading (take m s) ≡ reading s

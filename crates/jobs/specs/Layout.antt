@@ -24,7 +24,7 @@ pub record Job : Type 0 where
 unfoldable pub hasWords : ℕ → Bool
 hasWords mode = eqb mode 7 || eqb mode 8
 
--- its numbers are in the layout's range
+-- its numbers are in the layout's range, and it has a word for each input where its mode has words, and else none
 pub record InRange (j : Job) : Type 0 where
   pub precision : j .p ≤ 9999
   pub exponent : j .emax ≤ 9999
@@ -43,9 +43,11 @@ pub record Rule : Type 0 where
   pub key : List ℕ
   pub form : Form
 
+-- a decimal number, no larger than is said
 abbrev pub number : List ℕ → ℕ → Rule
 number key most = record { key = key; form = Number most }
 
+-- a word of 64 bits
 abbrev pub word : List ℕ → Rule
 word key = record { key = key; form = Word }
 
@@ -60,6 +62,7 @@ heads =
     ∷ number (110 ∷ 61 ∷ []) 1024  -- n=
     ∷ []
 
+-- a place's line, or two lines
 abbrev pub input : Rule
 input = word (120 ∷ 61 ∷ [])  -- x=
 

@@ -44,10 +44,11 @@ placeLines words n = n * cond words 2 1
 unfoldable pub headsIn : List ℕ → Lines
 headsIn s = readFrom false 0 6 s
 
--- whether values begin with a mode that has words, and how many lines they ask for behind the six; none where n is missing
+-- whether the mode among these values has words
 abbrev pub wordsIn : List ℕ → Bool
 wordsIn vs = hasWords (getD vs 3 0)
 
+-- how many lines they ask for behind the six: none where n is missing
 unfoldable pub linesIn : List ℕ → ℕ
 linesIn vs = placeLines (wordsIn vs) (getD vs 5 0)
 

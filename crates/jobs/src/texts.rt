@@ -108,7 +108,8 @@ fn place_lines(words: bool, n: u64) -> usize
     n as usize
 }
 
-// What a text of so many bytes is that is read so far, of whose lines so many are asked for.
+// Whether a text is sound of which so much is read: all lines that are asked for, up to `last`, and all of
+// its bytes; or else its first bad line, which is the next.
 fn verdict(end: Reached, last: usize, bytes: usize) -> Reading
     requires { ⌜ end .line ≤ 2054 ⌝ }
     ensures { λ y. ⌜ y ≡ cond (eqb (end .line) last && eqb (end .at) bytes) Sound (Bad (suc (end .line))) ⌝ }
@@ -117,7 +118,7 @@ fn verdict(end: Reached, last: usize, bytes: usize) -> Reading
         return Reading::Bad(end.line as u64 + 1);
     }
     if end.at != bytes {
-        return Reading::Bad(end.line as u64 + 1);
+        return Reading::Bad(last as u64 + 1);
     }
     Reading::Sound
 }
@@ -129,9 +130,8 @@ pub fn read_job(text: &[u8], values: &mut [u64; 2054]) -> Reading
     ensures written { λ _. ⌜ now (values .exit) ≡ over (valuesIn (now (text .entry))) (now (values .entry)) ⌝ }
 {
     let heads = read_lines(text, 0, 0, HEADS, false, values);
-    let read = heads.line;
-    if read < HEADS {
-        return Reading::Bad(read as u64 + 1);
+    if heads.line < HEADS {
+        return verdict(heads, HEADS, text.len());
     }
     let words = has_words(values[3]);
     let last = HEADS + place_lines(words, values[5]);

@@ -7,26 +7,26 @@ use lib.ListN.{length, length-append}
 use Rattle.lines.specs.declared.Form.the-variants.{Number, Word}
 use Rattle.lines.specs.Numerals.{decimals}
 use Rattle.lines.proofs.Lengths.{length-line, number-line-short}
-use Rattle.jobtext.specs.Answers.{statusLine, countLine, placeLine, patternLine, patternLines, accepted, refused}
+use Rattle.jobtext.specs.Answers.{statusKey, countKey, placeKey, patternKey, statusLine, countLine, placeLine, patternLine, patternLines, accepted, refused}
 
 pub status-length : (number : ℕ) → length (statusLine number) ≤ 12
-status-length number = number-line-short (115 ∷ 116 ∷ 97 ∷ 116 ∷ 117 ∷ 115 ∷ 61 ∷ []) 9999 number
+status-length number = number-line-short statusKey 9999 number
 
 -- status 0 has one digit
 pub accepted-status-length : length (statusLine 0) ≡ 9
 unfolding decimals
-accepted-status-length = length-line (115 ∷ 116 ∷ 97 ∷ 116 ∷ 117 ∷ 115 ∷ 61 ∷ []) (Number 9999) 0
+accepted-status-length = length-line statusKey (Number 9999) 0
 
 pub count-length : (n : ℕ) → length (countLine n) ≤ 7
-count-length n = number-line-short (110 ∷ 61 ∷ []) 9999 n
+count-length n = number-line-short countKey 9999 n
 
 pub place-length : (place : ℕ) → length (placeLine place) ≤ 8
-place-length place = number-line-short (97 ∷ 116 ∷ 61 ∷ []) 9999 place
+place-length place = number-line-short placeKey 9999 place
 
 pub pattern-length : (y : ℕ) → length (patternLine y) ≡ 19
-pattern-length y = length-line (121 ∷ 61 ∷ []) Word y
+pattern-length y = length-line patternKey Word y
 
-pub patterns-length : (ys : List ℕ) → length (patternLines ys) ≡ 19 * length ys
+patterns-length : (ys : List ℕ) → length (patternLines ys) ≡ 19 * length ys
 unfolding patternLines
 patterns-length [] = refl
 patterns-length (y ∷ ys) =

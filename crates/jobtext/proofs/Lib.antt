@@ -8,6 +8,7 @@ pub mod Zeros
 pub mod Spreads
 pub mod Values
 pub mod Texts
+pub mod Refusals
 pub mod Facts
 pub mod Unique
 pub mod Cases

@@ -37,12 +37,12 @@ module _ (text values : List ℕ) (r : Reading) (answered : r ≡ reading text) 
   read-alike : (i : ℕ) → getD values i 0 ≡ getD (valuesIn text) i 0
   read-alike i = ap {A = List ℕ} (λ l. getD l i 0) written ∙ getD-over-zeros (valuesIn text) 2054 i (values-are-few text)
 
-  module _ (sound : r ≡ Sound) where
-    -- a sound text's places are no more than there may be
-    pub sound-many : getD values 5 0 ≤ 1024
-    sound-many = subst (λ (n : ℕ). n ≤ 1024) (sym (read-alike 5)) (count-in-range text)
+  -- there are no more places than there may be
+  pub few-places : getD values 5 0 ≤ 1024
+  few-places = subst (λ (n : ℕ). n ≤ 1024) (sym (read-alike 5)) (count-in-range text)
 
-    -- and its answer is its job's
+  module _ (sound : r ≡ Sound) where
+    -- the answer to a sound text is its job's
     pub sound-answer : (after : List ℕ) (y : ℕ) → take y after ≡ answerOf (jobOf values) → take y after ≡ answerTo text
     unfolding answerTo answerBy
     sound-answer after y is =

@@ -1,5 +1,5 @@
 -- The printed answer (document 01, "The job text"): a status and a second line, and, where nothing is refused, a line for each
--- pattern. The numbers of an answer have four digits at most. Assumes nothing.
+-- pattern. Every number that is printed so has four digits at most (`refusals-are-few`, `lines-are-few`). Assumes nothing.
 use mathlib.Core.Bool.{cond}
 use mathlib.Core.List.{List, [], _∷_, _++_}
 use Prim.Native.Nat.{ℕ}
@@ -9,18 +9,35 @@ use Rattle.lines.specs.declared.Form.the-variants.{Number, Word}
 use Rattle.lines.specs.Lines.{line}
 use Rattle.reports.specs.declared.Report.{Report}
 
--- the lines of an answer
+-- ---- the lines of an answer
+
+-- their keys
+abbrev pub statusKey : List ℕ
+statusKey = 115 ∷ 116 ∷ 97 ∷ 116 ∷ 117 ∷ 115 ∷ 61 ∷ []  -- status=
+
+abbrev pub countKey : List ℕ
+countKey = 110 ∷ 61 ∷ []  -- n=
+
+abbrev pub placeKey : List ℕ
+placeKey = 97 ∷ 116 ∷ 61 ∷ []  -- at=
+
+abbrev pub patternKey : List ℕ
+patternKey = 121 ∷ 61 ∷ []  -- y=
+
+-- and what stands in them: three numbers, and a pattern in sixteen digits
 abbrev pub statusLine : ℕ → List ℕ
-statusLine number = line (115 ∷ 116 ∷ 97 ∷ 116 ∷ 117 ∷ 115 ∷ 61 ∷ []) (Number 9999) number  -- status=
+statusLine number = line statusKey (Number 9999) number
 
 abbrev pub countLine : ℕ → List ℕ
-countLine n = line (110 ∷ 61 ∷ []) (Number 9999) n  -- n=
+countLine n = line countKey (Number 9999) n
 
 abbrev pub placeLine : ℕ → List ℕ
-placeLine place = line (97 ∷ 116 ∷ 61 ∷ []) (Number 9999) place  -- at=
+placeLine place = line placeKey (Number 9999) place
 
 abbrev pub patternLine : ℕ → List ℕ
-patternLine y = line (121 ∷ 61 ∷ []) Word y  -- y=
+patternLine y = line patternKey Word y
+
+-- ---- the answer
 
 -- a line for each pattern, in order
 unfoldable pub patternLines : List ℕ → List ℕ

@@ -1,5 +1,5 @@
 -- The answer to a text (document 01, "The job text" and "Refusal numbers"): a text that is no job's is refused as 12, at its first
--- bad line, before any number of it is looked at; a job is answered as the array call answers it. Assumes nothing.
+-- bad line, before any other refusal; a job is answered as the array call answers it. Assumes nothing.
 use mathlib.Core.List.{List}
 use Prim.Native.Nat.{ℕ}
 use lib.Dec.{eqb}
@@ -32,11 +32,13 @@ patternsOf j = afterwards (formatOf j) (j .mode) (j .r) (j .ws) (j .xs) (room j)
 unfoldable pub answerOf : Job → List ℕ
 answerOf j = printed (reportOf j) (patternsOf j)
 
--- the answer to what was read: of a sound text by its values, and of another by its first bad line
+-- ---- the answer to a text. What it is for every text is said by `jobs-are-answered`, `bad-lines-are-refused` and
+-- `every-text-is-either`; here it is computed, by what is read of the text.
+
+-- of a sound text it goes by its values, and of another by its first bad line
 unfoldable pub answerBy : List ℕ → Reading → List ℕ
 answerBy values Sound = answerOf (jobOf values)
 answerBy values (Bad k) = refused 12 k
 
--- the answer to a text
 unfoldable pub answerTo : List ℕ → List ℕ
 answerTo s = answerBy (valuesIn s) (reading s)

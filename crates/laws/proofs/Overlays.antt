@@ -4,11 +4,11 @@ use mathlib.Core.Bool.{Bool, true, false, cond}
 use mathlib.Core.List.{List, [], _∷_, _++_, append-assoc, append-nil}
 use mathlib.Core.Path.{_≡_, refl, sym, ap, ap₂, _∙_}
 use Prim.Native.Nat.{ℕ, suc, _+_, _-_, _≤_, _<_}
-use native.Mathlib.Nat.{le-of-lt}
+use native.Mathlib.Nat.{le-of-lt, zero-add}
 use native.Mathlib.Omega.{arith}
 use lib.Dec.{leb}
 use lib.ListN.{length, getD, set, take, drop, length-append, length-drop, drop-of-length-le, List·getD-append}
-use lib.Seq.{length-take-le, take-all, take-suc, drop-cons, append-snoc, set-at, take-append-seam, drop-append-seam, drop-drop}
+use lib.Seq.{length-take-le, take-all, take-suc, take-length, drop-cons, append-snoc, set-at, take-append-seam, drop-append-seam, drop-drop, paste}
 use borrow.Author.Tests.{leb-true, le-leb, lt-leb}
 use Rattle.laws.specs.Lists.{over}
 
@@ -46,18 +46,14 @@ module _ (a l : List ℕ) (fits : length a ≤ length l) where
   pub getD-over : (i : ℕ) → i < length a → getD (over a l) i 0 ≡ getD a i 0
   getD-over i within = ap (λ (m : List ℕ). getD m i 0) (over-fits a l fits) ∙ List·getD-append a (drop (length a) l) 0 i within
 
--- ---- written entry after entry: a list in whose place another comes
+-- ---- written entry after entry
 
--- upwards: one entry more of the new list, of which the first ones are there
-pub one-more-up : (new old : List ℕ) (i : ℕ) → length new ≡ length old → i < length old
-    → set (take i new ++ drop i old) i (getD new i 0) ≡ take (suc i) new ++ drop (suc i) old
-one-more-up new old i long within =
-    ap (λ (r : List ℕ). set (take i new ++ r) i (getD new i 0)) (drop-cons old i 0 within)
-    ∙ set-at (take i new) (getD old i 0) (drop (suc i) old) (getD new i 0) i (length-take-le i new (omega arith))
-    ∙ sym (append-snoc (take i new) (getD new i 0) (drop (suc i) old))
-    ∙ ap (λ (r : List ℕ). r ++ drop (suc i) old) (sym (take-suc new i 0 (omega arith)))
+-- upwards all that is pasted is what is laid over
+pub pasted-over : (a l : List ℕ) → length a ≤ length l → paste l 0 a (length a) ≡ over a l
+pasted-over a l fits =
+    ap₂ {C = List ℕ} (λ (r : List ℕ) (n : ℕ). r ++ drop n l) (take-length a) (zero-add (length a)) ∙ sym (over-fits a l fits)
 
--- downwards: one entry more, of which the last ones are there
+-- downwards a list comes in another's place: one entry more, of which the last ones are there
 pub one-more-down : (new old : List ℕ) (i : ℕ) → length new ≡ length old → i < length old
     → set (take (suc i) old ++ drop (suc i) new) i (getD new i 0) ≡ take i old ++ drop i new
 one-more-down new old i long within =
@@ -69,7 +65,7 @@ one-more-down new old i long within =
 -- ---- in two pieces
 
 -- the second laid over what the first leaves
-pub over-two : (a b l : List ℕ) → length a + length b ≤ length l → a ++ over b (drop (length a) l) ≡ over (a ++ b) l
+over-two : (a b l : List ℕ) → length a + length b ≤ length l → a ++ over b (drop (length a) l) ≡ over (a ++ b) l
 over-two a b l fits =
     let room : length b ≤ length (drop (length a) l) = simp length-drop (omega arith) in
     let whole : length (a ++ b) ≤ length l = simp length-append (omega arith) in

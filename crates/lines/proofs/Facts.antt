@@ -2,9 +2,9 @@
 use mathlib.Core.Bool.{Bool, cond}
 use mathlib.Core.List.{List, _∷_, _++_, append-assoc}
 use mathlib.Core.Path.{_≡_, sym, ap, ap₂, _∙_}
-use Prim.Native.Nat.{ℕ, _+_, _-_}
+use Prim.Native.Nat.{ℕ, _+_, _-_, _≤_}
 use native.Mathlib.Omega.{arith}
-use lib.ListN.{length, drop}
+use lib.ListN.{length, drop, length-append}
 use lib.Seq.{drop-append-seam, drop-drop}
 use Rattle.lines.specs.declared.Form.{Form}
 use Rattle.lines.specs.declared.Found.{Found}
@@ -18,7 +18,7 @@ use Rattle.lines.proofs.Lengths.{length-line}
 use Rattle.lines.proofs.RoundTrips.{written-value, found-passed, found-under, read-value-fits, read-value-used, read-value-written}
 
 -- a line and what follows it are the key, the digits, the line feed and what follows
-line-parts : (key : List ℕ) (form : Form) (n : ℕ) (rest : List ℕ)
+pub line-parts : (key : List ℕ) (form : Form) (n : ℕ) (rest : List ℕ)
     → line key form n ++ rest ≡ key ++ (digits (base form) (width form n) n ++ lineFeed ∷ rest)
 unfolding line
 line-parts key form n rest = simp append-assoc
@@ -95,3 +95,12 @@ read-fits key form s n used e = read-value-fits form (drop (length key) s) n (us
 -- and the text begins with its line
 pub read-is-written : ReadIsWritten
 read-is-written key form s n used e = (line-begins key form s n used e, line-bytes key form s n used e)
+
+-- so the bytes that it takes are the text's
+pub read-ends-within : (key : List ℕ) (form : Form) (s : List ℕ) (n used : ℕ) → readLine key form s ≡ Value n used → used ≤ length s
+read-ends-within key form s n used e =
+    omega (
+      arith,
+      line-bytes key form s n used e,
+      ap (λ (l : List ℕ). length l) (line-begins key form s n used e) ∙ length-append (line key form n) (drop used s),
+    )

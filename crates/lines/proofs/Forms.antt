@@ -1,12 +1,12 @@
--- The two forms of a value: their bases, and how many digits a value of the form takes. Assumes nothing.
-use mathlib.Core.Bool.{Bool, true, false, cond}
-use mathlib.Core.Path.{_≡_, refl, sym, subst}
+-- The two forms of a value: their bases, how many digits a value of the form takes, and which values are of it. Assumes nothing.
+use mathlib.Core.Bool.{Bool, true, false, cond, _&&_}
+use mathlib.Core.Path.{_≡_, refl, sym, ap, ap₂, subst}
 use Prim.Native.Nat.{ℕ, _^_, _≤_, _<_}
 use native.Mathlib.Nat.{le-refl}
 use native.Mathlib.Omega.{arith}
-use lib.Dec.{leb, ltb}
-use borrow.Author.Tests.{ltb-true}
-use Rattle.laws.proofs.Tests.{and-right}
+use lib.Dec.{leb, ltb, leb·zero}
+use borrow.Author.Tests.{leb-true, ltb-true, le-leb, lt-ltb}
+use Rattle.laws.proofs.Tests.{and-left, and-right}
 use Rattle.lines.specs.declared.Form.{Form}
 use Rattle.lines.specs.declared.Form.the-variants.{Number, Word}
 use Rattle.lines.specs.Numerals.{decimals}
@@ -68,3 +68,33 @@ pub width-holds : (form : Form) (n : ℕ) → fits form n ≡ true → n < base 
 unfolding fits
 width-holds (Number most) n h = decimals-hold n (ltb-true n (10 ^ 4) (and-right (leb n most) (ltb n (10 ^ 4)) h))
 width-holds Word n h = ltb-true n (16 ^ 16) h
+
+-- ---- whether a value is of a form
+
+-- a number is where it is no larger than is said, which is below 10000,
+pub number-fits : (most n : ℕ) → most ≤ 9999 → n ≤ most → fits (Number most) n ≡ true
+unfolding fits
+number-fits most n few h =
+    let short : n < 10 ^ 4 = omega arith in
+    ap₂ _&&_ (le-leb n most h) (lt-ltb n (10 ^ 4) short)
+
+-- and only there
+pub fits-number : (most n : ℕ) → fits (Number most) n ≡ true → n ≤ most
+unfolding fits
+fits-number most n e = leb-true n most (and-left (leb n most) (ltb n (10 ^ 4)) e)
+
+-- a word is where it has 64 bits,
+pub word-fits : (n : ℕ) → n < 2 ^ 64 → fits Word n ≡ true
+unfolding fits
+word-fits n h = lt-ltb n (2 ^ 64) h
+
+-- and only there
+pub fits-word : (n : ℕ) → fits Word n ≡ true → n < 2 ^ 64
+unfolding fits
+fits-word n e = ltb-true n (2 ^ 64) e
+
+-- 0 is of every form
+pub fits-zero : (form : Form) → fits form 0 ≡ true
+unfolding fits
+fits-zero (Number most) = ap (λ (t : Bool). t && true) (leb·zero most)
+fits-zero Word = refl

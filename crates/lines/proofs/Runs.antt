@@ -20,19 +20,19 @@ use Rattle.lines.proofs.Texts.{drop-next, take-next}
 -- ---- how many digits there are
 
 -- none where nothing is left
-pub run-empty : (base most : ℕ) → run base most [] ≡ 0
+run-empty : (base most : ℕ) → run base most [] ≡ 0
 unfolding run
 run-empty base zero = refl
 run-empty base (suc most) = refl
 
 -- none where the first byte is no digit in the base
-pub run-other : (base most b : ℕ) (s : List ℕ) → base ≤ worth b → run base most (b ∷ s) ≡ 0
+run-other : (base most b : ℕ) (s : List ℕ) → base ≤ worth b → run base most (b ∷ s) ≡ 0
 unfolding run
 run-other base zero b s high = refl
 run-other base (suc most) b s high = simp (le-ltb (worth b) base high)
 
 -- one more than behind the first byte where that is one
-pub run-first : (base most b : ℕ) (s : List ℕ) → worth b < base → run base (suc most) (b ∷ s) ≡ suc (run base most s)
+run-first : (base most b : ℕ) (s : List ℕ) → worth b < base → run base (suc most) (b ∷ s) ≡ suc (run base most s)
 unfolding run
 run-first base most b s low = simp (lt-ltb (worth b) base low)
 

@@ -2,10 +2,9 @@
 use mathlib.Core.Bool.{Bool, true, false, cond, _&&_}
 use mathlib.Core.List.{List, [], _∷_, _++_}
 use mathlib.Core.Path.{_≡_, refl, sym, ap, ap₂, _∙_, subst}
-use Prim.Native.Nat.{ℕ, zero, suc, _+_, _*_, _/_, _%_, _^_, _≤_, _<_, zero-le, suc-le-suc}
-use native.Mathlib.Nat.{lt-of-lt-of-le, le-of-lt, le-of-suc-le-suc, not-suc-le-zero, mod-lt, pow-zero, pow-suc}
-use native.Mathlib.Omega.{arith}
-use lib.Arith.{digits-div, digits-mod, digits-lt}
+use Prim.Native.Nat.{ℕ, zero, suc, _+_, _*_, _/_, _%_, _≤_, _<_, zero-le, suc-le-suc}
+use native.Mathlib.Nat.{lt-of-lt-of-le, le-of-lt, le-of-suc-le-suc, not-suc-le-zero, mod-lt}
+use lib.Arith.{digits-div, digits-mod}
 use lib.Dec.{ltb}
 use lib.ListN.{length, getD, take}
 use lib.Seq.{take-suc}
@@ -50,7 +49,7 @@ module _ (base : ℕ) where
       (run-whole ds b t most (and-right (isDigit d) (every isDigit ds) all) none (le-of-suc-le-suc h))
 
   -- no more are counted than there are
-  pub run-within : (most : ℕ) (s : List ℕ) → run base most s ≤ length s
+  run-within : (most : ℕ) (s : List ℕ) → run base most s ≤ length s
   unfolding run
   run-within zero s = zero-le
   run-within (suc most) [] = zero-le
@@ -61,7 +60,7 @@ module _ (base : ℕ) where
       go false later = zero-le
 
   -- each byte that is counted is a digit in the base
-  pub run-worth : (most : ℕ) (s : List ℕ) (i : ℕ) → i < run base most s → worth (getD s i 0) < base
+  run-worth : (most : ℕ) (s : List ℕ) (i : ℕ) → i < run base most s → worth (getD s i 0) < base
   unfolding run
   run-worth zero s i h = absurd (not-suc-le-zero h)
   run-worth (suc most) [] i h = absurd (not-suc-le-zero h)
@@ -87,14 +86,7 @@ module _ (base : ℕ) where
     soFar-more : (i : ℕ) → i < run base most s → soFar (suc i) ≡ soFar i * base + worth (getD s i 0)
     soFar-more i h = ap (value base 0) (one-more i h) ∙ value-last base 0 (take i s) (getD s i 0)
 
-    -- i digits are worth less than the base's power
-    pub run-below : (i : ℕ) → i ≤ run base most s → soFar i < base ^ i
-    unfolding value
-    run-below zero h = omega (arith, pow-zero base)
-    run-below (suc i) h =
-        rw (soFar-more i h, pow-suc base i) (digits-lt (run-below i (le-of-lt h)) (run-worth most s i h))
-
-    -- and are the digits of what they are worth
+    -- the digits that are counted are those of what they are worth
     pub run-digits : base ≤ 16 → (i : ℕ) → i ≤ run base most s → take i s ≡ digits base i (soFar i)
     unfolding digits
     run-digits small zero h = refl

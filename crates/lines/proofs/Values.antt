@@ -8,7 +8,7 @@ use lib.Dec.{ltb, eqb}
 use lib.ListN.{length, getD, take, drop, length-drop, List·getD-eq-default}
 use mir.Val.{Fits}
 use mir.Syntax.{w64}
-use borrow.Author.Tests.{lt-ltb, le-leb, lt-leb, eq-eqb, ne-eqb, not-true, not-false}
+use borrow.Author.Tests.{le-leb, lt-leb, eq-eqb, ne-eqb, not-true, not-false}
 use borrow.Rule.Slice.PartAt.{part-to-end}
 use Rattle.lines.specs.declared.digits.Digits.{Digits}
 use Rattle.lines.specs.declared.Form.{Form}
@@ -18,6 +18,7 @@ use Rattle.lines.specs.declared.Found.the-variants.{Value, Nothing}
 use Rattle.lines.specs.Numerals.{decimals}
 use Rattle.lines.specs.Lines.{lineFeed, base, width, fits}
 use Rattle.lines.specs.Reading.{run, value, longest, begins, digitsRead, valueRead, readValue, behind, readLine}
+use Rattle.lines.proofs.Forms.{word-fits}
 use Rattle.lines.proofs.Keys.{begins-within}
 use Rattle.lines.proofs.RoundTrips.{read-value-within}
 
@@ -34,14 +35,13 @@ module _ (form : Form) (most : ℕ) (is : form ≡ Number most) (n : ℕ) where
   number-large above = sym (ap (λ (f : Form). fits f n) is ∙ simp (lt-leb n most above))
 
   -- and otherwise fits where it has four digits at most
-  pub number-fits : n ≤ most → ltb n 10000 ≡ fits form n
+  pub number-short : n ≤ most → ltb n 10000 ≡ fits form n
   unfolding fits
-  number-fits within = sym (ap (λ (f : Form). fits f n) is ∙ simp (le-leb n most within))
+  number-short within = sym (ap (λ (f : Form). fits f n) is ∙ simp (le-leb n most within))
 
 -- every 64-bit word fits
-pub word-fits : (form : Form) → form ≡ Word → (n : ℕ) → Fits w64 n → true ≡ fits form n
-unfolding fits
-word-fits form is n word = sym (ap (λ (f : Form). fits f n) is ∙ lt-ltb n (16 ^ 16) (word .fits))
+pub any-word-fits : (form : Form) → form ≡ Word → (n : ℕ) → Fits w64 n → true ≡ fits form n
+any-word-fits form is n word = sym (ap (λ (f : Form). fits f n) is ∙ word-fits n (word .fits))
 
 -- ---- the value that a text begins with
 

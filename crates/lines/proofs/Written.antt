@@ -87,7 +87,7 @@ unfolding taken
 taken-all l out fits = ap (λ (b : Bool). cond b (length l) 0) (le-leb (length l) (length out) fits)
 
 -- and nothing of a shorter one
-pub taken-none : (l out : List ℕ) → length out < length l → taken l out ≡ 0
+taken-none : (l out : List ℕ) → length out < length l → taken l out ≡ 0
 unfolding taken
 taken-none l out long = ap (λ (b : Bool). cond b (length l) 0) (lt-leb (length l) (length out) long)
 

@@ -9,6 +9,9 @@ pub use reading::read_line;
 pub use writing::lay_over;
 pub use writing::write_line;
 
+// The byte that ends a line.
+const LINE_FEED: u8 = 10;
+
 // The form of a line's value: a decimal number, no larger than is said and of four digits at most, or a
 // word of sixteen hexadecimal digits.
 pub enum Form {

@@ -4,10 +4,9 @@ ghost use Rattle.lines.specs.Lines.{base, width, fits as Lines·fits};
 ghost use Rattle.lines.specs.Reading.{longest, begins as Reading·begins, readValue, readLine};
 use super::Form;
 use super::Found;
+use super::LINE_FEED;
 use super::digits::decimals;
 use super::digits::read_digits;
-
-const LINE_FEED: u8 = 10;
 
 // The base in which a value of the form is written.
 pub(crate) fn base_of(form: Form) -> u64

@@ -7,6 +7,7 @@ ghost use Rattle.laws.specs.Lists.{over};
 ghost use Rattle.lines.specs.Numerals.{digits};
 ghost use Rattle.lines.specs.Lines.{lineFeed, base, width, line, taken};
 use super::Form;
+use super::LINE_FEED;
 use super::digits::byte_of;
 use super::reading::base_of;
 use super::reading::width_of;
@@ -48,11 +49,12 @@ fn write_value(out: &mut [u8], form: Form, n: u64, size: usize)
     ensures { λ _. ⌜ now (out .exit) ≡ over (digits (base form) size n ++ (lineFeed ∷ [])) (now (out .entry)) ⌝ }
 {
     write_digits(out, base_of(form), size, n);
-    out[size] = 10;
+    out[size] = LINE_FEED;
 }
 
 // The line at the start of out and how many bytes it takes; or, where it is longer than out, 0 and out as
-// it was.
+// it was. Whether the number is of the form is not looked at: of one with more than four digits the last
+// four are written.
 pub fn write_line(out: &mut [u8], key: &[u8], form: Form, n: u64) -> usize
     ensures answer { λ y. ⌜ y ≡ taken (line (now (key .entry)) form n) (now (out .entry)) ⌝ }
     ensures written { λ _. ⌜ now (out .exit) ≡ over (line (now (key .entry)) form n) (now (out .entry)) ⌝ }

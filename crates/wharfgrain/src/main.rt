@@ -1,8 +1,8 @@
 // The job program: a job text on standard input, its answer on standard output. No contract can say what
 // is read or written; what is done with it is in the library.
 
-// Standard input is read to its end, or until it is longer than any sound text: what follows then does not
-// change the answer.
+// Of standard input 65,536 bytes are read, or what there is: no job's text is that long, and what may
+// follow does not change the answer.
 fn main() {
     let mut text = io::large_buffer();
     let got = io::read_full(0, &mut text);

@@ -1,11 +1,11 @@
 -- `jobtext::runs::print_answer` meets its contract. Assumes nothing.
 use borrow.Author.Needs.{needs}
-use Rattle.jobtext.proofs.Texts.{sound-many, sound-answer, bad-answer}
+use Rattle.jobtext.proofs.Texts.{few-places, sound-answer, bad-answer}
 use Rattle.jobtext.proofs.runs.print_answer.Statement.{statement}
 use Rattle.jobtext.proofs.runs.print_answer.Tie as tie
 
 run-values-requires : tie.Need-run-values-requires
-run-values-requires c κs = (search sound-many, search needs)
+run-values-requires c κs = (search few-places, search needs)
 
 returns : tie.Need-returns
 returns c = (search needs, search sound-answer)

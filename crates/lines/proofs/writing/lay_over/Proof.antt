@@ -1,10 +1,9 @@
 -- `lines::writing::lay_over` meets its contract. Assumes nothing.
-use mathlib.Core.List.{_++_}
 use mathlib.Core.Path.{_≡_}
 use Prim.Native.Nat.{_-_, _≤_}
-use lib.ListN.{length, take, drop, length-set}
+use lib.ListN.{length, length-set}
+use lib.Seq.{paste}
 use borrow.Author.Needs.{needs}
-use Rattle.laws.specs.Lists.{over}
 use Rattle.lines.proofs.Overlaid.{too-many, one-more-laid, all-laid}
 use Rattle.lines.proofs.writing.lay_over.Statement.{statement}
 use Rattle.lines.proofs.writing.lay_over.Tie as tie
@@ -14,7 +13,7 @@ Inv-loop out₀ bytes i₀ out i =
     (i ≤ length bytes)
     × (length bytes ≤ length out₀)
     × (length out ≡ length out₀)
-    × (out ≡ take i (over bytes out₀) ++ drop i out₀)
+    × (out ≡ paste out₀ 0 bytes i)
 
 abbrev μ-loop : tie.MeasureT-loop
 μ-loop out₀ bytes i₀ out i = length bytes - i
