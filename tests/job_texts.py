@@ -3,8 +3,9 @@
 
 Runs the command bin/wharfgrain on job texts and compares its answers, byte for byte:
   the examples, and the stored jobs of tests/jobs, with the answers beside them;
-  sound texts at the hard places of many formats, and texts with something wrong in them, each with the answer
-  that is worked out here anew, from the wording of document 01 and by rules.py;
+  sound texts at the hard places of many formats, texts that break one rule of the layout each, and texts that
+  something was done to at random, each with the answer that is worked out here anew, from the wording of
+  document 01 and by rules.py;
   and odd streams: none, one that comes byte after byte, and megabytes.
 It shares nothing with the proved code. Leaves with 0 only if all agree.
 """
@@ -107,6 +108,45 @@ def sound_texts(draw):
                 yield text_of(p, emax, draw.getrandbits(1), mode, r, [draw.getrandbits(64)] * draw.randrange(3), draw)
 
 
+def with_line(lines, at, line):
+    """The text of these lines with another at place `at`, counted from 0."""
+    return b'\n'.join(lines[:at] + [line] + lines[at + 1:]) + b'\n'
+
+
+def broken_texts(draw):
+    """Each rule of the layout broken by itself, in every line that it is about."""
+    lines = text_of(11, 15, 1, 7, 3, [draw.getrandbits(64), draw.getrandbits(64)], draw).split(b'\n')[:-1]
+    for at, line in enumerate(lines):
+        key, value = line.split(b'=')
+        yield with_line(lines, at, key.upper() + b'=' + value)
+        yield with_line(lines, at, key + b':' + value)
+        yield with_line(lines, at, key + b'==' + value)
+        yield with_line(lines, at, key + value)
+        for other in (b'', b'0' + value, value + b' ', b' ' + value, value + b'\r', b'+' + value, b'-0', value + b'\0'):
+            yield with_line(lines, at, key + b'=' + other)
+        if at < 6:
+            for other in (b'00', b'000', b'12345', b'10000', b'A', b'1:', b'/1', b'1.0', b'1e1', b'0x1', b'\xb2'):
+                yield with_line(lines, at, key + b'=' + other)
+        else:
+            for digit in b'GgaF@`/:':
+                yield with_line(lines, at, key + b'=' + value[:-1] + bytes([digit]))
+            yield with_line(lines, at, key + b'=' + value[1:])
+    for sub in (b'2', b'9', b'01', b'10'):
+        yield with_line(lines, 2, b'sub=' + sub)
+    for mode in list(range(10)) + [9999]:
+        for other in (7, 3):
+            # the lines of mode 7, with words, and of mode 3, without, under each mode
+            rows = text_of(11, 15, 1, other, 3, [0x3FF0030000000000] * 2, draw).split(b'\n')[:-1]
+            yield with_line(rows, 3, b'mode=%d' % mode)
+    for n in (1023, 1024, 1025, 9999):
+        rows = text_of(2, 1, 1, 8, 0, [draw.getrandbits(64) for _ in range(n)], draw).split(b'\n')[:-1]
+        yield b'\n'.join(rows) + b'\n'
+        yield with_line(rows, 5, b'n=%d' % (n - 1))
+    # the longest text that there is, and something behind it
+    longest = text_of(9999, 9999, 1, 7, 9999, [0] * 1024, draw)
+    yield from (longest, longest + b'\n', longest + b'x', longest + b'x=0000000000000000\n', longest[:-1])
+
+
 def spoilt(text, draw):
     """The text with something done to it, which may leave it sound."""
     at, lines = draw.randrange(len(text) + 1), text.split(b'\n')
@@ -149,6 +189,9 @@ def read(name):
 def stored(folder):
     """The jobs of a folder, with the answers beside them."""
     names = sorted(name[:-4] for name in os.listdir(folder) if name.endswith('.job'))
+    answers = sorted(name[:-7] for name in os.listdir(folder) if name.endswith('.answer'))
+    if names != answers:
+        sys.exit('job_texts.py: in %s not every job has an answer, or not every answer a job' % folder)
     for name in names:
         yield '%s/%s' % (os.path.basename(folder), name), read('%s/%s.job' % (folder, name)), read('%s/%s.answer' % (folder, name))
 
@@ -181,7 +224,10 @@ def run_in_pieces(command, text):
             program.stdin.flush()
             time.sleep(0.001)
         program.stdin.close()
-        return program.stdout.read()
+        there = program.stdout.read()
+    if program.returncode:
+        sys.exit('job_texts.py: %s ended with status %d' % (command, program.returncode))
+    return there
 
 
 def compared(kind, names, texts, due, there):
@@ -222,7 +268,8 @@ def main():
         compare_stored(command, '%s/examples' % TOP),
         compare_stored(command, '%s/jobs' % HERE),
         compare_made(command, 'sound', sound),
-        compare_made(command, 'spoilt', bad),
+        compare_made(command, 'with a broken rule', broken_texts(draw)),
+        compare_made(command, 'something done to', bad),
         compare_streams(command)]))
 
 
