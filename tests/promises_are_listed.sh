@@ -1,8 +1,8 @@
 #!/usr/bin/env bash
 # docs/PROMISES.md has a row for every function that another crate can call, with that function's
-# uniqueness fact and at least two wrong answers that it rules out, each an edit of that function's
-# crate; the fact is about that function's promise, and about what it leaves in a lent array too if it is
-# lent one to write; no such function asks anything of its caller. The page lists every must-fail edit,
+# uniqueness fact and at least two wrong answers that it rules out, each in a must-fail edit of that
+# function's crate; the fact is about that function's promise, and about what it leaves in a lent array too if it is
+# lent one to write; no such function asks anything of its caller. The page lists every wrong answer,
 # and every statement that specs/ names as a whole has a law in it; a fact's row names the file that its
 # laws are in; and the page names no function, fact, law, file or edit that is not there. Whether any
 # other fact is missing from the page it cannot tell.
@@ -35,6 +35,11 @@ quoted() {
     grep -o '`[^`]*`' <<<"$1" | tr -d '`' || true
 }
 
+# the wrong answers that a crate's must-fail edits hold
+wrong_answers() {
+    grep -hoE '^# [A-Za-z0-9_]+: .' "crates/$1/must-fail/"*.edit | sed 's/^# //; s/: .$//' || true
+}
+
 # what stands between a function's name and its body: parameters and contract
 contract_of() {
     awk -v name="$1" '
@@ -59,9 +64,9 @@ while IFS='|' read -r _ function _ _ _ unique ruled_out _; do
     [ "$(quoted "$ruled_out" | sort -u | wc -l)" -ge 2 ] ||
         complain "the row of $function rules out fewer than two wrong answers"
     crate=$(grep -rlE "^ *pub (extern \"C\" )?fn $function\(" crates/*/src | cut -d / -f 2 || true)
-    for edit in $(quoted "$ruled_out"); do
-        [ -e "crates/$crate/must-fail/$edit.edit" ] ||
-            complain "the row of $function names $edit, which is no edit of the crate ${crate:-?}"
+    for answer in $(quoted "$ruled_out"); do
+        wrong_answers "$crate" | grep -qxF -- "$answer" ||
+            complain "the row of $function names $answer, which is in no edit of the crate ${crate:-?}"
     done
 done <<<"$rows"
 
@@ -92,21 +97,25 @@ while read -r name; do
     grep -q "^| \`$name\` |" <<<"$rows" || complain "no row for the function $name"
 done < <(grep -rhoE '^ *pub (extern "C" )?fn [a-z0-9_]+' crates/*/src | awk '{ print $NF }' | sort -u)
 
-edits=0
-for edit in crates/*/must-fail/*.edit; do
-    edits=$((edits + 1))
-    grep -qxF -- "$(basename "$edit" .edit)" <<<"$named" || complain "no word of the edit $edit"
+answers=0
+all_answers=
+for crate in crates/*; do
+    for answer in $(wrong_answers "$(basename "$crate")" 2>/dev/null); do
+        answers=$((answers + 1))
+        all_answers+="$answer"$'\n'
+        grep -qxF -- "$answer" <<<"$named" || complain "no word of the wrong answer $answer of $crate"
+    done
 done
 
-# what the page names is a file, a crate, an edit, a function, or a name of specs/ or proofs/
+# what the page names is a file, a crate, a wrong answer, a function, or a name of specs/ or proofs/
 while read -r name; do
     [ -e "$name" ] && continue
     [ -e "crates/$name" ] && continue
-    ls crates/*/must-fail/"$name".edit >/dev/null 2>&1 && continue
+    grep -qxF -- "$name" <<<"$all_answers" && continue
     grep -rqE "^ *(pub )?(extern \"C\" )?fn $name\(" crates/*/src && continue
     grep -rqE -- "^ *((unfoldable|abbrev|pub|record|data) )*$name( [({].*)? :" crates/*/specs crates/*/proofs && continue
     complain "$name is named, and nothing of that name is there"
 done <<<"$named"
 
-echo "promises listed: $functions functions, $edits edits, $(grep -c . <<<"$facts") facts, $wrong complaints"
-[ "$functions" -gt 0 ] && [ "$edits" -gt 0 ] && [ "$wrong" -eq 0 ]
+echo "promises listed: $functions functions, $answers wrong answers, $(grep -c . <<<"$facts") facts, $wrong complaints"
+[ "$functions" -gt 0 ] && [ "$answers" -gt 0 ] && [ "$wrong" -eq 0 ]
