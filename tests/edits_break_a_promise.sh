@@ -33,7 +33,8 @@ fi
 changed() {
     local file
     for file in $(sed -n 's/^file: //p' "$2" | sort -u); do
-        diff "crates/$1/$file" "target/must-fail/$1/$(basename "$2" .edit)/$file" | sed -n 's/^\([0-9]*\).*/\1/p' |
+        { diff "crates/$1/$file" "target/must-fail/$1/$(basename "$2" .edit)/$file" || true; } |
+            sed -n 's/^\([0-9][0-9]*\).*/\1/p' |
             while read -r line; do
                 awk -v line="$line" '
                     match($0, /^ *(pub(\(crate\))? )?(extern "C" )?fn [a-z0-9_]+\(/) {

@@ -1,11 +1,11 @@
 #!/usr/bin/env bash
 # docs/PROMISES.md has a row for every function that another crate can call, with that function's
 # uniqueness fact and at least two wrong answers that it rules out, each in a must-fail edit of that
-# function's crate; the fact is about that function's promise, and about what it leaves in a lent array too if it is
-# lent one to write; no such function asks anything of its caller. The page lists every wrong answer,
-# and every statement that specs/ names as a whole has a law in it; a fact's row names the file that its
-# laws are in; and the page names no function, fact, law, file or edit that is not there. Whether any
-# other fact is missing from the page it cannot tell.
+# function's crate; the fact is about that function's promise, and about what it leaves in a lent array
+# too if it is lent one to write; no such function asks anything of its caller. The page lists every wrong
+# answer, and every statement that specs/ names as a whole has a law in it; a fact's row names the file
+# that its laws are in; and the page names no function, fact, law, file or wrong answer that is not there.
+# Whether any other fact is missing from the page it cannot tell.
 set -euo pipefail
 unset CDPATH
 cd "$(dirname "$0")/.."
