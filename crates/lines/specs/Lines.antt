@@ -26,7 +26,7 @@ unfoldable pub fits : Form → ℕ → Bool
 fits (Number most) n = leb n most && ltb n (10 ^ 4)
 fits Word n = ltb n (16 ^ 16)
 
--- the line
+-- the line: its key, the value's digits and the line feed
 unfoldable pub line : List ℕ → Form → ℕ → List ℕ
 line key form n = key ++ (digits (base form) (width form n) n ++ (lineFeed ∷ []))
 
