@@ -1,7 +1,7 @@
 -- The loop that takes entries of a list, so many apart, to another: the start, a turn, and the end. Assumes nothing.
 use mathlib.Core.List.{List}
 use mathlib.Core.Path.{_≡_, refl, sym, subst}
-use Prim.Native.Nat.{ℕ, _+_, _*_, _≤_, _<_}
+use Prim.Native.Nat.{ℕ, _+_, _*_, _^_, _≤_, _<_}
 use native.Mathlib.Nat.{le-antisymm, mul-le-mul-right, add-mul}
 use native.Mathlib.Omega.{arith}
 use lib.ListN.{length, getD, set}
@@ -20,20 +20,22 @@ module _ (values : List ℕ) (from apart : ℕ) where
   nothing-spread out = filled-none (spreadAt values from apart) out
 
   module _ (out₀ out : List ℕ) (i : ℕ) (long : length out ≡ length out₀) where
-    module _ (room : from + length out₀ * apart < 2054 + apart) (within : i < length out) where
+    -- from a list of a size, which has room for every entry,
+    module _ (size : ℕ) (room : from + length out₀ * apart < size + apart) (within : i < length out) where
       -- the entry is there
-      pub spread-within : from + i * apart < 2054
+      pub spread-within : from + i * apart < size
       spread-within = omega (arith, mul-le-mul-right {m = i + 1} {n = length out₀} apart (omega arith), add-mul i 1 apart)
 
       -- and its place can be worked out
-      pub spread-product : Fits w64 (i * apart)
-      spread-product = omega (arith, spread-within)
+      module _ (small : size * 8 < 2 ^ 63) where
+        pub spread-product : Fits w64 (i * apart)
+        spread-product = omega (arith, spread-within)
 
-      pub spread-place : Fits w64 (from + i * apart)
-      spread-place = omega (arith, spread-within)
+        pub spread-place : Fits w64 (from + i * apart)
+        spread-place = omega (arith, spread-within)
 
-      pub spread-scaled : Fits w64 ((from + i * apart) * 8)
-      spread-scaled = omega (arith, spread-within)
+        pub spread-scaled : Fits w64 ((from + i * apart) * 8)
+        spread-scaled = omega (arith, spread-within)
 
     module _ (filled : FilledTo (spreadAt values from apart) i out) where
       pub one-more-spread : i < length out₀ → FilledTo (spreadAt values from apart) (i + 1) (set out i (getD values (from + i * apart) 0))

@@ -18,13 +18,13 @@ loop-holds : tie.Need-loop-holds Inv-loop μ-loop
 loop-holds c = (search needs, search needs, search nothing-spread)
 
 mul-out : tie.Need-mul-out Inv-loop μ-loop
-mul-out c = search spread-product
+mul-out c = search (spread-product, needs)
 
 add-out : tie.Need-add-out Inv-loop μ-loop
-add-out c = search spread-place
+add-out c = search (spread-place, needs)
 
 mul-out-2 : tie.Need-mul-out-2 Inv-loop μ-loop
-mul-out-2 c = search spread-scaled
+mul-out-2 c = search (spread-scaled, needs)
 
 element-copy-out-out : tie.Need-element-copy-out-out Inv-loop μ-loop
 element-copy-out-out c = search spread-within
