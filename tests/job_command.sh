@@ -18,7 +18,7 @@ fail() {
 # a copy of the command, in a folder whose name has a space, and the tools that it uses, with no rt among them
 copy="$room/a copy"
 mkdir -p "$copy/crates" "$room/tools" "$room/kit"
-cp -R bin crates.txt "$copy"
+cp -R bin scripts crates.txt "$copy"
 for tool in bash cat chmod cp dirname find flock grep head id mkdir mktemp readlink rm sleep tee touch wc; do
     ln -s "$(command -v "$tool")" "$room/tools/$tool"
 done
@@ -87,9 +87,9 @@ first=$!
 wait "$first" || fail "the first call ended with status $?"
 [ "$(cat "$room/first" "$room/second")" = "$(printf 'bytes=3\nbytes=2')" ] || fail "two calls at once wrote $(cat "$room/first" "$room/second")"
 [ "$(wc -l <"$room/built")" -eq 1 ] || fail "two calls at once built the program $(wc -l <"$room/built") times"
-cat "$room/first.err" "$room/second.err" | grep -q 'proving and building the program, once' || fail "nobody says that the program is built"
-cat "$room/first.err" "$room/second.err" | grep -q 'rt: a crate is proved' || fail "rt's lines are not shown"
-cat "$room/first.err" "$room/second.err" | grep -q 'waiting for another call' || fail "nobody says what is waited for"
+grep -q 'proving and building the program, once' "$room/first.err" "$room/second.err" || fail "nobody says that the program is built"
+grep -q 'rt: a crate is proved' "$room/first.err" "$room/second.err" || fail "rt's lines are not shown"
+grep -q 'waiting for another call' "$room/first.err" "$room/second.err" || fail "nobody says what is waited for"
 
 # a program that is there is not built again, and one that is older than its sources, or than one that went,
 # is
@@ -121,7 +121,7 @@ ended=0
 [ "$ended" -eq 1 ] && grep -q 'cannot be written' "$room/err" || fail "an answer that is lost ends with status $ended"
 
 # another machine needs the toolchain for its emulator
-refused 1 'has the emulator that runs the program on this machine' env MACHINE=aarch64 PATH="$room/tools" "$command" "$room/three bytes"
+refused 1 'needs the toolchain'\''s emulator, and its command rt is not on the PATH' env MACHINE=aarch64 PATH="$room/tools" "$command" "$room/three bytes"
 
 # a program that fails, or says nothing, gives no answer
 printf '#!/usr/bin/env bash\nexit 3\n' >"$copy/target/bin/wharfgrain"

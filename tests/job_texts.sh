@@ -32,8 +32,6 @@ sed -n '/the job above gives/,/^or,/s/^    \([a-z]*=[0-9A-F]*\)$/\1/p' "$room/he
 cmp "$room/answer" "$room/due" || fail "the help's answer is not that of its job"
 sed -n 's/^    \([a-z]*=[0-9A-F]*\)$/\1/p' README.md | cmp - examples/document-01.answer || fail "README's answer is not that of its first command"
 
-command -v python3 >/dev/null || {
-    echo "tests/job_texts.sh: python3 is missing: installing it by apt-get" >&2
-    { apt-get update -q && apt-get install -y -q python3; } >&2 || fail "python3 could not be installed"
-}
+. scripts/python.sh
+need_python
 python3 tests/job_texts.py "$command"

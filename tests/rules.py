@@ -1,57 +1,58 @@
-"""The rules of document 01 in exact fractions: what a pattern is worth, how it is rounded, packed and
-unpacked, and what is refused. It shares nothing with the proved code.
+"""The rules of document 01 in whole numbers: what a pattern is worth, how it is rounded, packed and unpacked, and
+what is refused. Magnitudes are counted in units of 2^-1074, in which every finite binary64 and every target number
+is whole. It shares nothing with the proved code.
 """
-from fractions import Fraction
-
-# what is above every number, and its pattern; magnitude patterns above that are NaNs, and QUIET is what a code's
-# NaN is unpacked to
-INFINITE = float('inf')
-INFINITY = 2047 << 52
-QUIET = INFINITY + 2**51
 
 
 def power(e):
-    return Fraction(2) ** e
+    """2^e, in units; no rule needs one below the unit."""
+    return 1 << (e + 1074)
+
+
+# Infinity's pattern, and 2^1024, which stands for what is infinite: it is above every number, and read as a number
+# infinity's pattern gives it. Magnitude patterns above are NaNs, and QUIET is what a code's NaN is unpacked to.
+INFINITY = 2047 << 52
+INFINITE = power(1024)
+QUIET = INFINITY + 2**51
+
+
+def exponent(a):
+    """The e with 2^e <= a < 2^(e+1), for a magnitude that is not zero."""
+    return a.bit_length() - 1075
 
 
 def value(magnitude):
-    """The number that a finite magnitude pattern stands for, by IEEE 754's two fields."""
+    """The number that a magnitude pattern stands for, by IEEE 754's two fields."""
     field, fraction = magnitude >> 52, magnitude & (2**52 - 1)
-    if field == 0:
-        return fraction * power(-1074)
-    return (2**52 + fraction) * power(field - 1075)
+    return fraction if field == 0 else (2**52 + fraction) << (field - 1)
 
 
 def pattern(number):
     """The magnitude pattern of a number that binary64 holds, or of what is infinite."""
-    if number == INFINITE:
-        return INFINITY
-    number = Fraction(number)
-    # the exponent of the first digit: the denominator is a power of two
-    e = number.numerator.bit_length() - number.denominator.bit_length()
-    field = 0 if number < power(-1022) else e + 1023
-    fraction = number * power(1074) if field == 0 else number * power(1075 - field) - 2**52
-    assert fraction.denominator == 1 and 0 <= fraction < 2**52 and field < 2047
-    return field * 2**52 + int(fraction)
+    field = max(number.bit_length() - 52, 0)
+    magnitude = number if field == 0 else (field << 52) + (number >> (field - 1)) - 2**52
+    assert value(magnitude) == number <= INFINITE
+    return magnitude
 
 
 def neighbours(a, p, emax, sub):
     """lo, hi and lo's m, for a magnitude below T."""
     emin = 1 - emax
-    e = emin
-    while power(e + 1) <= a:
-        e += 1
-    if a >= power(emin) or sub:
-        step = power(e - p + 1)
+    if sub or a >= power(emin):
+        step = power(max(exponent(a), emin) - p + 1)
     else:
         step = power(emin)
-    m = int(a / step)
+    m = a // step
     return m * step, (m + 1) * step, m
 
 
+def K(lo, hi, a, r):
+    """Of mode 7: how many 2^r-th parts of the gap a lies above lo, the rest cut off."""
+    return 2**r * (a - lo) // (hi - lo)
+
+
 def takes_hi(mode, negative, lo, hi, m, a, r, word):
-    gap, rest = hi - lo, a - lo
-    nearer = 2 * rest - gap
+    nearer = 2 * a - lo - hi
     if mode == 0:
         return nearer > 0 or (nearer == 0 and m % 2 == 1)
     if mode == 1:
@@ -59,8 +60,7 @@ def takes_hi(mode, negative, lo, hi, m, a, r, word):
     if mode == 2:
         return nearer >= 0
     if mode == 7:
-        k = int(2**r * rest / gap)
-        return k + word % 2**r >= 2**r
+        return K(lo, hi, a, r) + word % 2**r >= 2**r
     return {3: False, 4: not negative, 5: negative, 6: m % 2 == 0, 8: word % 2 == 1}[mode]
 
 
@@ -70,7 +70,7 @@ def rounded(p, emax, sub, mode, r, word, x):
         return x
     negative, a, top = sign != 0, value(magnitude), power(emax + 1)
     if a >= top:
-        xmax = power(emax) * (2 - power(1 - p))
+        xmax = top - power(emax - p + 1)
         finite = mode in (3, 6) or (mode == 4 and negative) or (mode == 5 and not negative)
         return sign | pattern(xmax if finite else INFINITE)
     lo, hi, m = neighbours(a, p, emax, sub)
@@ -89,8 +89,8 @@ def refusal(p, emax, mode, r):
 
 
 def width(p, emax):
-    """k, by IEEE 754's rule for interchange formats, emax = 2^(k-p-1) - 1; None for a format without codes."""
-    return next((k for k in range(p + 2, p + 12) if 2 ** (k - p - 1) - 1 == emax), None)
+    """k = be + p, where emax + 1 = 2^(be-1); None for a format without codes."""
+    return p + (emax + 1).bit_length() if (emax + 1) & emax == 0 else None
 
 
 def code_refusal(p, emax):
@@ -101,11 +101,10 @@ def code_refusal(p, emax):
 def number_of(p, emax, code):
     """What a code without a sign stands for, by IEEE 754's fields E and T; None for a NaN."""
     field, trailing = divmod(code, 2 ** (p - 1))
-    if field == 2 ** (width(p, emax) - p) - 1:
+    if field == 2 * emax + 1:
         return None if trailing else INFINITE
-    if field == 0:
-        return power(1 - emax) * (0 + trailing * power(1 - p))
-    return power(field - emax) * (1 + trailing * power(1 - p))
+    e = max(field, 1) - emax
+    return (power(e) if field else 0) + trailing * power(e - p + 1)
 
 
 def unpacked(p, emax, sub, code):
@@ -116,8 +115,7 @@ def unpacked(p, emax, sub, code):
     if number:
         return number, 0
     sign, magnitude = divmod(code, 2 ** (width(p, emax) - 1))
-    field, trailing = divmod(magnitude, 2 ** (p - 1))
-    if not sub and field == 0 and trailing:
+    if not sub and 0 < magnitude < 2 ** (p - 1):
         return 10, 0
     worth = number_of(p, emax, magnitude)
     return 0, sign << 63 | (QUIET if worth is None else pattern(worth))
@@ -128,20 +126,15 @@ def packed(p, emax, sub, x):
     number = code_refusal(p, emax)
     if number:
         return number, 0
-    k = width(p, emax)
+    k, emin = width(p, emax), 1 - emax
     sign, magnitude = divmod(x, 2**63)
-    low, high = 0, 2 ** (k - 1) - 2 ** (p - 1)
     if magnitude > INFINITY:
-        return 0, sign << (k - 1) | high | 2 ** (p - 2)
-    # from 0 to infinity the numbers go up with the codes: halve until one code is left
-    a = INFINITE if magnitude == INFINITY else value(magnitude)
-    while low < high:
-        middle = (low + high) // 2
-        if number_of(p, emax, middle) < a:
-            low = middle + 1
-        else:
-            high = middle
-    code = sign << (k - 1) | low
+        return 0, sign << (k - 1) | (2 * emax + 1) << (p - 1) | 2 ** (p - 2)
+    # codes go up with the numbers, 2^(p-1) for each exponent, and from T on comes infinity's: the only code that
+    # can be right is that of the largest number not above
+    a = min(value(magnitude), power(emax + 1))
+    e = max(exponent(a), emin)
+    code = sign << (k - 1) | ((e - emin) << (p - 1)) + a // power(e - p + 1)
     return (0, code) if unpacked(p, emax, sub, code) == (0, x) else (8, 0)
 
 

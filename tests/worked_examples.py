@@ -8,46 +8,46 @@ them, too. Leaves with 0 only if each text has at least one answer and all agree
 """
 import re
 import sys
-from fractions import Fraction
 
 from rules import (
-    INFINITE, INFINITY, QUIET, array_refusal, code_refusal, neighbours, number_of, packed, pattern,
+    INFINITE, INFINITY, K, QUIET, array_refusal, code_refusal, neighbours, number_of, packed, pattern,
     power, refusal, rounded, unpacked, value, width)
 
-# By p and emax, the numbers that are published of codes without a sign: zero, the smallest and the largest
-# subnormal number, the smallest normal one, the nearest to 1/3, the last below 1, 1, the next, 2, the nearest to
-# pi, the largest number, and infinity; not each of them in every format.
+# By p and emax, the numbers that are published of codes without a sign, in the units of rules.py: zero, the smallest
+# and the largest subnormal number, the smallest normal one, the nearest to 1/3, the last below 1, 1, the next, 2,
+# the nearest to pi, the largest number, and infinity; not each of them in every format.
 PUBLISHED = {
     # binary16
     (11, 15): {
-        0x0000: 0, 0x0001: power(-24), 0x03FF: 1023 * power(-24), 0x0400: power(-14), 0x3555: Fraction(1365, 4096),
-        0x3BFF: Fraction(2047, 2048), 0x3C00: 1, 0x3C01: Fraction(1025, 1024), 0x7BFF: 65504, 0x7C00: INFINITE},
+        0x0000: 0, 0x0001: power(-24), 0x03FF: 1023 * power(-24), 0x0400: power(-14), 0x3555: 1365 * power(-12),
+        0x3BFF: 2047 * power(-11), 0x3C00: power(0), 0x3C01: 1025 * power(-10), 0x7BFF: 65504 * power(0),
+        0x7C00: INFINITE},
     # bfloat16
     (8, 127): {
-        0x0000: 0, 0x0001: power(-133), 0x007F: 127 * power(-133), 0x0080: power(-126), 0x3EAB: Fraction(171, 512),
-        0x3F80: 1, 0x3F81: Fraction(129, 128), 0x4000: 2, 0x4049: Fraction(201, 64), 0x7F7F: 255 * 2**120,
+        0x0000: 0, 0x0001: power(-133), 0x007F: 127 * power(-133), 0x0080: power(-126), 0x3EAB: 171 * power(-9),
+        0x3F80: power(0), 0x3F81: 129 * power(-7), 0x4000: power(1), 0x4049: 201 * power(-6), 0x7F7F: 255 * power(120),
         0x7F80: INFINITE},
     # TensorFloat-32
     (11, 127): {
-        0x00000: 0, 0x00001: power(-136), 0x003FF: 1023 * power(-136), 0x00400: power(-126), 0x1FC00: 1,
-        0x1FC01: Fraction(1025, 1024), 0x3FBFF: 2047 * 2**117, 0x3FC00: INFINITE},
+        0x00000: 0, 0x00001: power(-136), 0x003FF: 1023 * power(-136), 0x00400: power(-126), 0x1FC00: power(0),
+        0x1FC01: 1025 * power(-10), 0x3FBFF: 2047 * power(117), 0x3FC00: INFINITE},
     # binary32
     (24, 127): {
         0x00000000: 0, 0x00000001: power(-149), 0x007FFFFF: 8388607 * power(-149), 0x00800000: power(-126),
-        0x3EAAAAAB: Fraction(11184811, 33554432), 0x3F7FFFFF: 1 - power(-24), 0x3F800000: 1,
-        0x3F800001: 1 + power(-23), 0x40000000: 2, 0x40490FDB: Fraction(13176795, 4194304),
-        0x7F7FFFFF: 16777215 * 2**104, 0x7F800000: INFINITE},
+        0x3EAAAAAB: 11184811 * power(-25), 0x3F7FFFFF: power(0) - power(-24), 0x3F800000: power(0),
+        0x3F800001: power(0) + power(-23), 0x40000000: power(1), 0x40490FDB: 13176795 * power(-22),
+        0x7F7FFFFF: 16777215 * power(104), 0x7F800000: INFINITE},
     # binary64
     (53, 1023): {
         0x0000000000000000: 0, 0x0000000000000001: power(-1074), 0x000FFFFFFFFFFFFF: power(-1022) - power(-1074),
-        0x0010000000000000: power(-1022), 0x3FD5555555555555: 6004799503160661 * power(-54), 0x3FF0000000000000: 1,
-        0x3FF0000000000001: 1 + power(-52), 0x4000000000000000: 2,
-        0x400921FB54442D18: Fraction(884279719003555, 281474976710656), 0x7FEFFFFFFFFFFFFF: 2**1024 - 2**971,
+        0x0010000000000000: power(-1022), 0x3FD5555555555555: 6004799503160661 * power(-54), 0x3FF0000000000000: power(0),
+        0x3FF0000000000001: power(0) + power(-52), 0x4000000000000000: power(1),
+        0x400921FB54442D18: 884279719003555 * power(-48), 0x7FEFFFFFFFFFFFFF: power(1024) - power(971),
         0x7FF0000000000000: INFINITE},
     # E5M2
     (3, 15): {
-        0x00: 0, 0x01: power(-16), 0x03: 3 * power(-16), 0x04: power(-14), 0x3C: 1, 0x3D: Fraction(5, 4),
-        0x7B: 57344, 0x7C: INFINITE},
+        0x00: 0, 0x01: power(-16), 0x03: 3 * power(-16), 0x04: power(-14), 0x3C: power(0), 0x3D: 5 * power(-2),
+        0x7B: 57344 * power(0), 0x7C: INFINITE},
 }
 
 
@@ -78,8 +78,7 @@ def total_answers(line):
     answers = [rounded(p, emax, sub == 1, 7, r, u, x) for u in range(2**r)]
     a = value(x & (2**63 - 1))
     lo, hi, _ = neighbours(a, p, emax, sub == 1)
-    k = int(2**r * (a - lo) / (hi - lo))
-    total = 2**r * lo + k * (hi - lo)
+    total = 2**r * lo + K(lo, hi, a, r) * (hi - lo)
     # a line counts in units of the input's last digit
     unit = power(max((x >> 52) % 2**11, 1) - 1075)
     exact = sum(value(y & (2**63 - 1)) for y in answers)

@@ -3,8 +3,16 @@
 -- read cannot change. Assumes nothing.
 use mathlib.Core.Path.{sym, _∙_}
 use denote.Ref.{now}
-use Rattle.laws.specs.Promises.{OneOutcome}
+use Rattle.laws.specs.Promises.{OneAnswer, OneOutcome}
+use Rattle.arrays.proofs.decisions.uses_word.Reads as uses-word
+use Rattle.arrays.proofs.decisions.decide.Reads as decide
 use Rattle.arrays.proofs.calls.round_array.Reads as round-array
+
+pub uses-word-unique : OneAnswer uses-word.Post
+uses-word-unique κs a y z s t p q = p ∙ sym q
+
+pub decide-unique : OneAnswer decide.Post
+decide-unique κs a y z s t p q = p ∙ sym q
 
 -- what stands in `out`, the last of the six parameters, as `round_array` returns
 pub round-array-unique : OneOutcome round-array.Post (λ κs lent. now (lent .1 .1 .1 .1 .1 .0))

@@ -1,20 +1,13 @@
 // The calls: decide, then write.
 ghost use mathlib.Core.Path.{_≡_};
 ghost use Rattle.arrays.specs.Rounding.{reported, afterwards};
-ghost use Rattle.reports.specs.Reports.{report};
 use super::decisions::decide;
 use super::decisions::uses_word;
 use super::loops::round_all;
 use grid::Format;
 use reports::Report;
+use reports::report_of;
 use rounding::Prepared;
-
-// The report of a call that is about no place: 0, or the number of its refusal.
-fn report_of(number: u64) -> Report
-    ensures { λ y. ⌜ y ≡ report number ⌝ }
-{
-    Report { number, place: 0 }
-}
 
 // Every pattern of xs rounded into out, place i with word i in modes 7 and 8; or a refusal, and out
 // as it was. In the other modes no word is looked at: the loop is lent xs in their place.

@@ -9,7 +9,7 @@ use rounding::Prepared;
 use rounding::prepare;
 
 // Whether the mode looks at the word: modes 7 and 8 do.
-pub(crate) fn uses_word(mode: Mode) -> bool
+pub fn uses_word(mode: Mode) -> bool
     ensures { λ y. ⌜ y ≡ usesWord mode ⌝ }
 {
     match mode {
@@ -43,7 +43,7 @@ fn lengths_refusal(mode: Mode, words: usize, inputs: usize, outputs: usize) -> u
 }
 
 // The settings to round by, or the number of the first refusal that applies.
-pub(crate) fn decide(
+pub fn decide(
     format: Format,
     mode: u64,
     r: u64,

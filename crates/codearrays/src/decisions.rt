@@ -4,7 +4,7 @@ ghost use Rattle.codearrays.specs.Codes.{thenLengths};
 
 // The number of the first refusal that packing or unpacking meets before it looks at an entry, and 0
 // where it meets none: that of the format, then 5 for the output's length.
-pub(crate) fn codes_refusal(number: u64, inputs: usize, outputs: usize) -> u64
+pub fn codes_refusal(number: u64, inputs: usize, outputs: usize) -> u64
     ensures { λ y. ⌜ y ≡ thenLengths number inputs outputs ⌝ }
 {
     if number != 0 {

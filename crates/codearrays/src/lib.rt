@@ -6,5 +6,6 @@ mod decisions;
 mod packing;
 mod unpacking;
 
+pub use decisions::codes_refusal;
 pub use packing::pack_array;
 pub use unpacking::unpack_array;

@@ -1,4 +1,5 @@
 -- The laws, a subject a file.
+pub mod ByteDigits
 pub mod Digits
 pub mod Fills
 pub mod Lists

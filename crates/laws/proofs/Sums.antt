@@ -26,6 +26,13 @@ sum-nothing (suc n) g none =
     ap₂ (λ (x y : ℕ). x + y) (none 0 (suc-le-suc zero-le))
     (sum-nothing n (λ (i : ℕ). g (suc i)) (λ i h. none (suc i) (suc-le-suc h)))
 
+-- a common factor of what is added up is one of the sum
+pub sum-scales : (n : ℕ) (g : ℕ → ℕ) (c : ℕ) → sum (tab n (λ (k : ℕ). g k * c)) ≡ sum (tab n g) * c
+unfolding sum
+sum-scales zero g c = sym (zero-mul c)
+sum-scales (suc n) g c =
+    ap (λ (x : ℕ). g 0 * c + x) (sum-scales n (λ (k : ℕ). g (suc k)) c) ∙ sym (add-mul (g 0) (sum (tab n (λ (k : ℕ). g (suc k)))) c)
+
 -- two rules are added up one after the other
 sum-adds : (n : ℕ) (g h : ℕ → ℕ) → sum (tab n (λ (i : ℕ). g i + h i)) ≡ sum (tab n g) + sum (tab n h)
 unfolding sum

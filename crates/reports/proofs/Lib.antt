@@ -1,3 +1,4 @@
 -- The laws on reports.
 pub mod Cases
 pub mod Lowest
+pub mod Unique
