@@ -2,8 +2,8 @@
 # Each must-fail edit is of src/ or specs/, and has to be refused at a promise or a fact. It holds one wrong
 # answer or several, of different functions, each under a line `# name: the rule that it breaks`.
 # For an edit of src/ a complaint of the prover is about a need named `returns`, `returns-2`, .., or
-# about what a loop has written so far (`FilledTo`, or what is pasted over a list, `paste`, in a need
-# named `loop-holds` or `loop-again`), and every other one is of that kind too or follows from it ("was
+# about what a loop has written so far (`FilledTo`, `SweptTo`, or what is pasted over a list, `paste`, in a
+# need named `loop-holds` or `loop-again`), and every other one is of that kind too or follows from it ("was
 # not admitted"); and each function that the edit changes is refused so by itself. A complaint about a sum
 # that may not fit, or about a proof file that no longer has the right needs, shows nothing about the
 # answer. That the edited answer is wrong, and not only another way to the right one, the prover cannot
@@ -17,7 +17,7 @@ set -euo pipefail
 unset CDPATH
 cd "$(dirname "$0")/.."
 
-at_a_promise='(error: |\()`returns(-[0-9]+)?`|error: `loop-(holds|again)(-[0-9]+)?`: `search`: no proof of `(FilledTo |.* ≡ paste )'
+at_a_promise='(error: |\()`returns(-[0-9]+)?`|error: `loop-(holds|again)(-[0-9]+)?`: `search`: no proof of `((FilledTo|SweptTo) |.* ≡ paste )'
 at_a_law='proofs/[A-Za-z]+\.antt:[0-9]+:[0-9]+: error: `[^`]*`: ((as printed|computed as far as they go), the two types (first )?differ|`omega`: the goal does not follow|`search`: no proof of)'
 follows='was not admitted'
 

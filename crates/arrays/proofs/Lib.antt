@@ -4,6 +4,7 @@ pub mod Accepted
 pub mod Refusals
 pub mod UnreadWords
 pub mod Turns
+pub mod Sweeps
 pub mod Outcomes
 pub mod WholeCalls
 pub mod Unique

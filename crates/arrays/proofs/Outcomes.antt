@@ -51,7 +51,7 @@ module _ (f : Format) (mode r : ℕ) (words xs out : List ℕ) where
     all-rounded-with : (others : List ℕ)
         → ((i : ℕ) → rounded f (modeOf mode r) (getD others i 0) (getD xs i 0) ≡ rounded f (modeOf mode r) (getD words i 0) (getD xs i 0))
         → roundedAllBy (settings f (modeOf mode r)) others xs ≡ afterwards f mode r words xs out
-    unfolding roundedAllBy roundedAt
+    unfolding roundedAllBy roundedByAt roundedAt
     all-rounded-with others alike =
         tab-alike (length xs) (roundedByAt (settings f (modeOf mode r)) others xs) (roundedAt f (modeOf mode r) words xs)
         (λ i h. accepted-pattern f mode r numbers (getD others i 0) (getD xs i 0) ∙ alike i)

@@ -38,7 +38,11 @@ module _ (f : Format) (mode r : ℕ) (words xs out : List ℕ) (d : Prepared) (e
     unfolding settings
     named = ap (λ (t : Settings). t .mode) made
 
-    -- the loop has as many places to write as to read
+    -- which is what the loop goes by
+    pub ready-mode : modeOf mode r ≡ s .mode
+    ready-mode = sym named
+
+    -- it has as many places to write as to read
     pub ready-lengths : length out ≡ length xs
     ready-lengths = lengths-agree (modeOf mode r) (length words) (length xs) (length out) lengths
 

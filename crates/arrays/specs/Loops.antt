@@ -1,8 +1,9 @@
--- What the code decides before anything is written, and what its loop writes, by settings. That this is what Rounding.antt says
+-- What the code decides before anything is written, and what its loops write, by settings. That this is what Rounding.antt says
 -- is what the proof of `round_array` shows. Assumes nothing.
 use mathlib.Core.List.{List}
 use Prim.Native.Nat.{ℕ}
 use lib.ListN.{length, getD}
+use Rattle.laws.specs.Fills.{FilledTo}
 use Rattle.laws.specs.Lists.{tab}
 use Rattle.grid.specs.declared.Format.{Format}
 use Rattle.magnitudes.specs.declared.Settings.{Settings}
@@ -17,8 +18,12 @@ unfoldable pub decided : Format → ℕ → ℕ → ℕ → ℕ → ℕ → Prep
 decided f mode r words inputs outputs = unlessRefused (arrayRefusal f mode r words inputs outputs) (settings f (modeOf mode r))
 
 -- the answer at place i by settings
-abbrev pub roundedByAt : Settings → List ℕ → List ℕ → ℕ → ℕ
+unfoldable pub roundedByAt : Settings → List ℕ → List ℕ → ℕ → ℕ
 roundedByAt s words xs i = roundedBy s (getD words i 0) (getD xs i 0)
+
+-- the places below n hold their answers
+abbrev pub RoundedTo : List ℕ → List ℕ → Settings → ℕ → List ℕ → Type 0
+RoundedTo words xs s n l = FilledTo (roundedByAt s words xs) n l
 
 -- every place's answer
 unfoldable pub roundedAllBy : Settings → List ℕ → List ℕ → List ℕ

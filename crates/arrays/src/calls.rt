@@ -26,10 +26,10 @@ pub fn round_array(
         Prepared::Ready(s) => {
             let known = s.mode;
             if uses_word(known) {
-                round_all(s, words, xs, out);
+                round_all(s, mode, r, words, xs, out);
                 return report_of(0);
             }
-            round_all(s, xs, xs, out);
+            round_all(s, mode, r, xs, xs, out);
             report_of(0)
         }
         Prepared::Refused(number) => report_of(number),

@@ -4,7 +4,9 @@
 // function answers for all inputs, arrays of any lengths among them.
 mod calls;
 mod decisions;
+mod looking;
 mod loops;
+mod sweeping;
 
 pub use calls::round_array;
 pub use codearrays::pack_array;

@@ -1,29 +1,145 @@
-// The loop that writes.
+// The loop over a whole array, stretch after stretch. It is swept as long as every number fits. From the first
+// stretch on that does not, stretches that do not fit go by tables, and behind two of them in a row a good many
+// more, so that data which never fits is not swept in vain.
 ghost use mathlib.Core.Path.{_≡_};
-ghost use Prim.Native.Nat.{_≤_, _<_};
+ghost use Prim.Native.Nat.{_≤_};
 ghost use lib.ListN.{length};
+ghost use Rattle.laws.specs.Fills.{FilledTo};
+ghost use Rattle.magnitudes.specs.Modes.{modeOf};
+ghost use Rattle.sweeps.specs.Rules.{placeTable};
+ghost use Rattle.sweeps.specs.Rows.{rowTable};
 ghost use Rattle.arrays.specs.Loops.{roundedByAt, roundedAllBy};
+use super::looking::look_up_stretch;
+use super::sweeping::sweep;
 use magnitudes::Settings;
 use rounding::round_by;
+use sweeps::fill_places;
+use sweeps::fill_rows;
+use sweeps::stretch_end;
 
-// The answer at place i: its own pattern, with its own word.
-fn round_at(s: Settings, words: &[u64], xs: &[u64], i: usize) -> u64
-    requires word { ⌜ i < length (now words) ⌝ }
-    requires pattern { ⌜ i < length (now xs) ⌝ }
-    ensures { λ y. ⌜ y ≡ roundedByAt s (now (words .entry)) (now (xs .entry)) i ⌝ }
+// How many stretches go by the tables before one is swept again: from the first that did not fit on, and where
+// the next that was swept did not fit either.
+const FIRST_PATIENCE: u64 = 4;
+
+const PATIENCE: u64 = 32;
+
+// How many places are left at least where the tables are worth their filling.
+const WORTH_TABLES: usize = 128;
+
+// Every stretch swept up to the first of which not every number fits. Answers where that starts.
+fn sweep_on(s: Settings, mode: u64, r: u64, words: &[u64], xs: &[u64], out: &mut [u64]) -> usize
+    requires mode { ⌜ modeOf mode r ≡ s .mode ⌝ }
+    requires words { ⌜ length (now xs) ≤ length (now words) ⌝ }
+    requires outputs { ⌜ length (now out) ≡ length (now xs) ⌝ }
+    ensures within { λ y. ⌜ y ≤ length (now (xs .entry)) ⌝ }
+    ensures outputs { λ y. ⌜ length (now (out .exit)) ≡ length (now (xs .entry)) ⌝ }
+    ensures done { λ y. ⌜ FilledTo (roundedByAt s (now (words .entry)) (now (xs .entry))) y (now (out .exit)) ⌝ }
 {
-    round_by(s, words[i], xs[i])
+    let n = xs.len();
+    let mut from = 0;
+    while from < n {
+        let to = stretch_end(from, n);
+        if sweep(s, mode, r, words, xs, out, from, to) != 0 {
+            return from;
+        }
+        from = to;
+    }
+    from
+}
+
+// The places from `from` on by tables that are filled. The first stretch is known not to fit.
+fn look_on(
+    s: Settings,
+    mode: u64,
+    r: u64,
+    places: &[u8; 2048],
+    rows: &[u64; 512],
+    words: &[u64],
+    xs: &[u64],
+    out: &mut [u64],
+    from: usize,
+)
+    requires mode { ⌜ modeOf mode r ≡ s .mode ⌝ }
+    requires words { ⌜ length (now xs) ≤ length (now words) ⌝ }
+    requires outputs { ⌜ length (now out) ≡ length (now xs) ⌝ }
+    requires starts { ⌜ from ≤ length (now xs) ⌝ }
+    requires done { ⌜ FilledTo (roundedByAt s (now words) (now xs)) from (now out) ⌝ }
+    requires places { ⌜ now places ≡ placeTable s ⌝ }
+    requires rows { ⌜ now rows ≡ rowTable s ⌝ }
+    ensures { λ y. ⌜ now (out .exit) ≡ roundedAllBy s (now (words .entry)) (now (xs .entry)) ⌝ }
+{
+    let n = xs.len();
+    let mut patience = FIRST_PATIENCE;
+    let mut again = PATIENCE;
+    let mut i = from;
+    while i < n {
+        let to = stretch_end(i, n);
+        if patience == 0 {
+            if sweep(s, mode, r, words, xs, out, i, to) == 0 {
+                again = 0;
+            } else {
+                look_up_stretch(s, mode, r, places, rows, words, xs, out, i, to);
+                patience = again;
+                again = PATIENCE;
+            }
+        } else {
+            look_up_stretch(s, mode, r, places, rows, words, xs, out, i, to);
+            patience -= 1;
+        }
+        i = to;
+    }
+}
+
+// The places from `from` on by tables.
+fn round_by_tables(
+    s: Settings,
+    mode: u64,
+    r: u64,
+    words: &[u64],
+    xs: &[u64],
+    out: &mut [u64],
+    from: usize,
+)
+    requires mode { ⌜ modeOf mode r ≡ s .mode ⌝ }
+    requires words { ⌜ length (now xs) ≤ length (now words) ⌝ }
+    requires outputs { ⌜ length (now out) ≡ length (now xs) ⌝ }
+    requires starts { ⌜ from ≤ length (now xs) ⌝ }
+    requires done { ⌜ FilledTo (roundedByAt s (now words) (now xs)) from (now out) ⌝ }
+    ensures { λ y. ⌜ now (out .exit) ≡ roundedAllBy s (now (words .entry)) (now (xs .entry)) ⌝ }
+{
+    let mut places = [0; 2048];
+    let mut rows = [0; 512];
+    fill_places(s, &mut places);
+    fill_rows(s, &mut rows);
+    look_on(s, mode, r, &places, &rows, words, xs, out, from);
+}
+
+// The places from `from` on, one after the other, by the single rounding.
+fn round_each(s: Settings, words: &[u64], xs: &[u64], out: &mut [u64], from: usize)
+    requires words { ⌜ length (now xs) ≤ length (now words) ⌝ }
+    requires outputs { ⌜ length (now out) ≡ length (now xs) ⌝ }
+    requires starts { ⌜ from ≤ length (now xs) ⌝ }
+    requires done { ⌜ FilledTo (roundedByAt s (now words) (now xs)) from (now out) ⌝ }
+    ensures { λ y. ⌜ now (out .exit) ≡ roundedAllBy s (now (words .entry)) (now (xs .entry)) ⌝ }
+{
+    let mut i = from;
+    while i < xs.len() {
+        out[i] = round_by(s, words[i], xs[i]);
+        i += 1;
+    }
 }
 
 // Every place rounded by the settings into out.
-pub(crate) fn round_all(s: Settings, words: &[u64], xs: &[u64], out: &mut [u64])
+pub(crate) fn round_all(s: Settings, mode: u64, r: u64, words: &[u64], xs: &[u64], out: &mut [u64])
+    requires mode { ⌜ modeOf mode r ≡ s .mode ⌝ }
     requires words { ⌜ length (now xs) ≤ length (now words) ⌝ }
     requires outputs { ⌜ length (now out) ≡ length (now xs) ⌝ }
-    ensures { λ _. ⌜ now (out .exit) ≡ roundedAllBy s (now (words .entry)) (now (xs .entry)) ⌝ }
+    ensures { λ y. ⌜ now (out .exit) ≡ roundedAllBy s (now (words .entry)) (now (xs .entry)) ⌝ }
 {
-    let mut i = 0;
-    while i < xs.len() {
-        out[i] = round_at(s, words, xs, i);
-        i += 1;
+    let from = sweep_on(s, mode, r, words, xs, out);
+    if xs.len() - from < WORTH_TABLES {
+        round_each(s, words, xs, out, from);
+    } else {
+        round_by_tables(s, mode, r, words, xs, out, from);
     }
 }

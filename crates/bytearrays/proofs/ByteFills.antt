@@ -7,7 +7,7 @@ use lib.ListN.{length, getD, set, length-set}
 use Rattle.laws.specs.Bytes.{byteOf}
 use Rattle.laws.specs.Fills.{FilledTo}
 use Rattle.laws.specs.Lists.{tab}
-use Rattle.laws.proofs.Fills.{filled-none, filled-more, filled-all}
+use Rattle.laws.proofs.Fills.{filled-none, filled-more, filled-fewer, filled-kept, filled-all}
 use Rattle.laws.proofs.Lists.{length-tab, getD-tab, tab-alike}
 use Rattle.bytearrays.specs.Bytes.{byteBy, bytesOf}
 use Rattle.bytearrays.specs.Loops.{withBytes, withWord}
@@ -37,6 +37,13 @@ filled-bytes h (suc n) k bs at w says room filled =
     stored : List ℕ
     stored = set bs (at + k) (byteOf w k)
 
+-- and leaves the places before it
+kept-bytes : (h : ℕ → ℕ) (n k : ℕ) (bs : List ℕ) (at w m : ℕ) → m ≤ at + k → FilledTo h m bs → FilledTo h m (withBytes n k bs at w)
+unfolding withBytes
+kept-bytes h zero k bs at w m before filled = filled
+kept-bytes h (suc n) k bs at w m before filled =
+    kept-bytes h n (suc k) (set bs (at + k) (byteOf w k)) at w m (omega arith) (filled-kept h (at + k) m bs (byteOf w k) before filled)
+
 -- ---- words
 
 -- writing one leaves the list as long as it was
@@ -60,6 +67,15 @@ module _ (g : ℕ → ℕ) (bs : List ℕ) where
       (subst (λ (m : ℕ). FilledTo (byteBy g) m (withWord bs i w)) (omega arith)
       (filled-bytes (byteBy g) 8 0 bs (8 * i) w (λ j below. ap (λ (v : ℕ). byteOf v j) is ∙ sym (byte-of-word g i j below)) (omega arith)
       (subst (λ (m : ℕ). FilledTo (byteBy g) m bs) (omega arith) filled)))
+
+  -- which leaves those before it,
+  pub fewer-kept : (m i w : ℕ) (after : List ℕ) → after ≡ withWord bs i w → m ≤ i → FilledTo (byteBy g) (8 * m) bs → FilledTo (byteBy g) (8 * m) after
+  fewer-kept m i w after same before filled =
+      subst (FilledTo (byteBy g) (8 * m)) (sym same) (kept-bytes (byteBy g) 8 0 bs (8 * i) w (8 * m) (omega arith) filled)
+
+  -- and where so many are, fewer are too,
+  pub fewer-filled : (i m : ℕ) → m ≤ i → FilledTo (byteBy g) (8 * i) bs → FilledTo (byteBy g) (8 * m) bs
+  fewer-filled i m fewer filled = filled-fewer (byteBy g) (8 * i) (8 * m) bs (omega arith) filled
 
   -- or all are, and the bytes are those of the words that the rule gives
   pub all-filled : (n i : ℕ) → length bs ≡ 8 * n → n ≤ i → i ≤ n → FilledTo (byteBy g) (8 * i) bs → bs ≡ bytesOf (tab n g)

@@ -52,7 +52,7 @@ unfolding ofWord
 one-more-word-made g bs out n long i filled within x read y is after same =
     one-more-filled (ofWord g bs) out i y after same (is ∙ ap g read) filled n long within
 
--- or rounded with its own random word
+-- or rounded with its own random word,
 pub one-more-word-rounded : (s : Settings) (words xs out : List ℕ) (n : ℕ) → length out ≡ 8 * n
     → (i : ℕ) → FilledTo (byteBy (roundedWord s words xs)) (8 * i) out → i < n
     → (w : ℕ) → w ≡ wordAt words i → (x : ℕ) → x ≡ wordAt xs i → (y : ℕ) → y ≡ roundedBy s w x
@@ -61,6 +61,15 @@ pub one-more-word-rounded : (s : Settings) (words xs out : List ℕ) (n : ℕ) �
 unfolding roundedWord
 one-more-word-rounded s words xs out n long i filled within w given x read y is after same =
     one-more-filled (roundedWord s words xs) out i y after same (is ∙ ap₂ (roundedBy s) given read) filled n long within
+
+-- and so one of a stretch
+pub one-more-of-stretch-rounded : (s : Settings) (words xs out : List ℕ) → length out ≡ 8 * (length xs / 8)
+    → (i : ℕ) → FilledTo (byteBy (roundedWord s words xs)) (8 * i) out → (to : ℕ) → i < to → to ≤ length xs / 8
+    → (w : ℕ) → w ≡ wordAt words i → (x : ℕ) → x ≡ wordAt xs i → (y : ℕ) → y ≡ roundedBy s w x
+    → (after : List ℕ) → after ≡ withWord out i y
+    → FilledTo (byteBy (roundedWord s words xs)) (8 * (i + 1)) after
+one-more-of-stretch-rounded s words xs out long i filled to within ends =
+    one-more-word-rounded s words xs out (length xs / 8) long i filled (lt-of-lt-of-le within ends)
 
 -- ---- where all words are written
 
@@ -75,7 +84,7 @@ module _ (bs out : List ℕ) (n : ℕ) (many : n ≡ length bs / 8) (long : leng
 
   pub all-words-rounded : (s : Settings) (words : List ℕ) → n ≤ length words / 8 → FilledTo (byteBy (roundedWord s words bs)) (8 * i) out
       → out ≡ bytesOf (roundedAllBy s (wordsOf words) (wordsOf bs))
-  unfolding roundedAllBy roundedWord
+  unfolding roundedAllBy roundedByAt roundedWord
   all-words-rounded s words enough filled =
       all-filled (roundedWord s words bs) out n i long reached within filled
       ∙ ap bytesOf

@@ -1,6 +1,7 @@
 -- The laws on arrays that are lent as bytes, a subject a file.
 pub mod ByteFills
 pub mod ByteTurns
+pub mod ByteSweeps
 pub mod Cases
 pub mod CodeCalls
 pub mod OneWord

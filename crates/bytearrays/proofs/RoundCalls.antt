@@ -82,6 +82,10 @@ module _ (f : Format) (mode r : ℕ) (words xs out : List ℕ) where
       decided-on-words =
           e ∙ ap (λ (n : ℕ). unlessRefused n (settings f (modeOf mode r))) (whole-refused (fitting-whole (length xs) (length out) fits))
 
+      -- the settings hold the call's mode,
+      pub ready-mode : modeOf mode r ≡ s .mode
+      ready-mode = on-words.ready-mode f mode r (wordsOf words) (wordsOf xs) (wordsOf out) d decided-on-words s ready
+
       -- the loop has eight bytes to write for each word to read,
       pub ready-lengths : length out ≡ 8 * (length xs / 8)
       ready-lengths = fitting-bytes (length xs) (length out) fits

@@ -5,9 +5,10 @@ use mathlib.Core.List.{List}
 use Prim.Native.Nat.{ℕ, zero, suc, _+_, _*_, _/_, _^_}
 use lib.ListN.{set}
 use Rattle.laws.specs.Bytes.{byteOf}
+use Rattle.laws.specs.Fills.{FilledTo}
 use Rattle.magnitudes.specs.declared.Settings.{Settings}
 use Rattle.rounding.specs.BySettings.{roundedBy}
-use Rattle.bytearrays.specs.Bytes.{wordAt, oneRagged}
+use Rattle.bytearrays.specs.Bytes.{byteBy, wordAt, oneRagged}
 
 -- ---- lengths
 
@@ -43,3 +44,7 @@ ofWord g bs i = g (wordAt bs i)
 -- word i rounded by settings, with its own random word
 unfoldable pub roundedWord : Settings → List ℕ → List ℕ → ℕ → ℕ
 roundedWord s words xs i = roundedBy s (wordAt words i) (wordAt xs i)
+
+-- the words below n hold their answers
+abbrev pub RoundedTo : List ℕ → List ℕ → Settings → ℕ → List ℕ → Type 0
+RoundedTo words xs s n l = FilledTo (byteBy (roundedWord s words xs)) (8 * n) l

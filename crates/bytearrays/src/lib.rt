@@ -3,8 +3,11 @@
 // contracts cite the definitions in specs/; start with specs/Lib.antt. Every callable function answers for
 // all inputs, arrays of any lengths among them.
 mod decisions;
+mod looking;
+mod loops;
 mod pack;
 mod round;
+mod sweeping;
 mod unpack;
 mod words;
 

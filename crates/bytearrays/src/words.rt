@@ -11,13 +11,13 @@ fn word_of(a: u8, b: u8, c: u8, d: u8, e: u8, f: u8, g: u8, h: u8) -> u64
     ensures { λ y. ⌜ y ≡ wordOf a b c d e f g h ⌝ }
 {
     a as u64
-        + (b as u64) * 0x100
-        + (c as u64) * 0x10000
-        + (d as u64) * 0x1000000
-        + (e as u64) * 0x100000000
-        + (f as u64) * 0x10000000000
-        + (g as u64) * 0x1000000000000
-        + (h as u64) * 0x100000000000000
+        | (b as u64) << 8
+        | (c as u64) << 16
+        | (d as u64) << 24
+        | (e as u64) << 32
+        | (f as u64) << 40
+        | (g as u64) << 48
+        | (h as u64) << 56
 }
 
 // Word i of the bytes.

@@ -1,8 +1,8 @@
 -- Filling a list, place after place: the start, a turn, and the end. Assumes nothing.
 use mathlib.Core.List.{List}
 use mathlib.Core.Path.{_≡_, sym, _∙_, subst}
-use Prim.Native.Nat.{ℕ, _+_, _<_}
-use native.Mathlib.Nat.{not-suc-le-zero, lt-irrefl}
+use Prim.Native.Nat.{ℕ, _+_, _≤_, _<_}
+use native.Mathlib.Nat.{not-suc-le-zero, lt-irrefl, lt-of-lt-of-le}
 use lib.ListN.{length, getD, set}
 use borrow.Author.Count.{below-more}
 use lib.Seq.{getD-set-same, getD-set-other, ext-getD}
@@ -24,6 +24,19 @@ module _ (g : ℕ → ℕ) where
 
       this : getD (set l i y) i 0 ≡ g i
       this = getD-set-same l i y 0 within ∙ says
+
+  -- which leaves those before it
+  pub filled-kept : (i m : ℕ) (l : List ℕ) (y : ℕ) → m ≤ i → FilledTo g m l → FilledTo g m (set l i y)
+  filled-kept i m l y before filled =
+      record {
+        holds =
+            λ k h.
+            getD-set-other l i k y 0 (λ (e : k ≡ i). lt-irrefl i (subst (λ (t : ℕ). t < i) e (lt-of-lt-of-le h before))) ∙ filled .holds k h;
+      }
+
+  -- where so many places are filled, fewer are too
+  pub filled-fewer : (i m : ℕ) (l : List ℕ) → m ≤ i → FilledTo g i l → FilledTo g m l
+  filled-fewer i m l fewer filled = record { holds = λ k h. filled .holds k (lt-of-lt-of-le h fewer) }
 
   -- a list that is filled to its end is the one that the rule makes
   pub filled-all : (n : ℕ) (l : List ℕ) → length l ≡ n → FilledTo g n l → l ≡ tab n g

@@ -3,10 +3,10 @@ use mathlib.Core.Bool.{Bool, cond}
 use mathlib.Core.Path.{_≡_, sym, ap, _∙_, subst}
 use mathlib.Core.Logic.{_⊎_, inl, inr}
 use Prim.Native.Nat.{ℕ, suc, _+_, _-_, _*_, _/_, _%_, _^_, _≤_, _<_, zero-le}
-use native.Mathlib.Nat.{add-mul, mul-add-div-right, suc-mul, mul-le-mul-right, lt-of-mul-lt-mul-right, mul-assoc, one-mul, zero-mul, sub-add-cancel, div-eq-of-lt, div-eq-of-lt-le, div-mul-cancel, div-mul-le-self, div-add-mod', dvd-mul-left, le-div-iff-mul-le, lt-of-le-of-lt, mod-lt}
+use native.Mathlib.Nat.{add-mul, mul-add-div-right, suc-mul, mul-le-mul-right, lt-of-mul-lt-mul-right, mul-assoc, one-mul, zero-mul, sub-add-cancel, div-eq-of-lt, div-eq-of-lt-le, div-mul-cancel, div-mul-le-self, div-add-mod', dvd-mul-left, le-div-iff-mul-le, lt-of-le-of-lt, mod-lt, mul-add-mod-self-right}
 use native.Mathlib.Omega.{arith}
 use lib.Dec.{leb}
-use lib.Pow.{pow-add, pow-pos, suc-ones}
+use lib.Pow.{pow-add, pow-pos, suc-ones, field}
 use borrow.Author.Tests.{le-leb, lt-leb}
 use Rattle.laws.proofs.Orders.{below-or-not, le-of-not-lt}
 
@@ -66,6 +66,16 @@ clears-past i j q n h =
     let whole : b * d ≡ q * 2 ^ j = zeros-whole q i j h in
     ap (λ (x : ℕ). (x + n) / d * d) (sym whole) ∙ ap (λ (x : ℕ). x * d) (mul-add-div-right (pow-pos i) b n) ∙ add-mul b (n / d) d
     ∙ ap (λ (x : ℕ). x + n / d * d) whole
+
+-- and a digit below that place is not touched by them
+pub digit-past : (i j q n : ℕ) → i < j → (q * 2 ^ j + n) / 2 ^ i % 2 ≡ n / 2 ^ i % 2
+digit-past i j q n h =
+    let d = 2 ^ (1 + i) in
+    let b = q * 2 ^ j / d in
+    let whole : b * d ≡ q * 2 ^ j = zeros-whole q (1 + i) j (omega arith) in
+    sym (field (q * 2 ^ j + n) 1 i)
+    ∙ ap (λ (x : ℕ). x / 2 ^ i) (ap (λ (x : ℕ). (x + n) % d) (sym whole) ∙ mul-add-mod-self-right b d n)
+    ∙ field n 1 i
 
 -- a power that a number reaches, its multiples reach
 pub clears-least : (i j n : ℕ) → i ≤ j → 2 ^ j ≤ n → 2 ^ j ≤ n / 2 ^ i * 2 ^ i

@@ -2,7 +2,8 @@
 use mathlib.Core.Path.{_≡_, sym, ap, _∙_, subst}
 use Prim.Native.Nat.{ℕ, _+_, _-_, _*_, _/_, _%_, _^_, _≤_, _<_}
 use native.Mathlib.Nat.{le-trans, lt-of-lt-of-le, one-mul, mul-assoc, mul-le-mul, mul-mod-left, mod-le, div-eq-of-lt, mod-eq-of-lt, sub-add-cancel}
-use lib.Bits.{bitAnd, and-mask}
+use native.Mathlib.Omega.{arith}
+use lib.Bits.{bitAnd, bitOr, and-mask, and-le-l, and-le-r, or-add-and}
 use lib.Pow.{pow-add, pow-pos, pow-mono, pow-lt}
 
 -- a one shifted to a place of the word is that power
@@ -37,3 +38,10 @@ moved-past w n d past =
     ∙ ap (λ (x : ℕ). n * x % 2 ^ w) (pow-add 2 (d - w) w)
     ∙ ap (λ (x : ℕ). x % 2 ^ w) (sym (mul-assoc n (2 ^ (d - w)) (2 ^ w)))
     ∙ mul-mod-left (n * 2 ^ (d - w)) (2 ^ w)
+
+-- where the bits of two numbers together stay below a power, each number does
+pub or-left-below : (k a b : ℕ) → bitOr a b < 2 ^ k → a < 2 ^ k
+or-left-below k a b h = omega (arith, or-add-and a b, and-le-r a b)
+
+pub or-right-below : (k a b : ℕ) → bitOr a b < 2 ^ k → b < 2 ^ k
+or-right-below k a b h = omega (arith, or-add-and a b, and-le-l a b)

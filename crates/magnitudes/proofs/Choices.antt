@@ -44,6 +44,20 @@ increment-below (Stochastic r) negative m D word h =
     div-lt-iff-lt-mul (pow-pos r) .1 (subst (λ (x : ℕ). u r word * D < x) (mul-comm (2 ^ r) D) (mul-lt-mul-of-pos-right (u-below r word) h))
 increment-below EvenChance negative m D word h = all-or-nothing-below (odd word) D h
 
+-- of lo's m an increment looks at no more than whether it is odd
+pub increment-parity :
+    (mode : Mode) (negative : Bool) (m n D word : ℕ) → m % 2 ≡ n % 2 → increment mode negative m D word ≡ increment mode negative n D word
+unfolding increment
+increment-parity TiesToEven negative m n D word e = ap (λ (x : ℕ). ((D - 1) / 2 + x) % D) e
+increment-parity TiesToZero negative m n D word e = refl
+increment-parity TiesAway negative m n D word e = refl
+increment-parity TowardZero negative m n D word e = refl
+increment-parity TowardPlus negative m n D word e = refl
+increment-parity TowardMinus negative m n D word e = refl
+increment-parity ToOdd negative m n D word e = ap (λ (x : ℕ). (D - 1 + x) % D) e
+increment-parity (Stochastic r) negative m n D word e = refl
+increment-parity EvenChance negative m n D word e = refl
+
 -- any rest reaches the step with all but one, and none does with nothing
 all-or-nothing-reaches : (all : Bool) (rest D : ℕ) → 0 < rest → rest < D → all ≡ leb D (rest + cond all (D - 1) 0)
 all-or-nothing-reaches true rest D some below = sym (le-leb D (rest + (D - 1)) (omega arith))

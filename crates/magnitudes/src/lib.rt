@@ -1,12 +1,14 @@
 // Rounding one magnitude in the nine modes of document 01, by settings that are worked out once for a
-// format and a mode. `mode_of` makes a mode of its number, and `round_magnitude` rounds. The contracts
-// cite the definitions in specs/; start with specs/Lib.antt. Every callable function answers for all
-// inputs.
+// format and a mode. `mode_of` makes a mode of its number, and `round_magnitude` rounds; what a mode adds
+// below a place, and what it makes of overflow, can be asked for too. The contracts cite the definitions in
+// specs/; start with specs/Lib.antt. Every callable function answers for all inputs.
 mod destinations;
 mod modes;
 
 pub use destinations::round_magnitude;
+pub use modes::increment_at;
 pub use modes::mode_of;
+pub use modes::overflows_to_infinity;
 
 // The rounding modes, in the order of their numbers, 0 to 8. Stochastic rounding holds its count r
 // of random bits.

@@ -2,12 +2,14 @@
 // by a sum: the rest below the step and the mode's increment reach the step exactly where hi is taken.
 ghost use mathlib.Core.Bool.{cond};
 ghost use mathlib.Core.Path.{_≡_};
-ghost use Prim.Native.Nat.{_*_, _/_, _^_, _<_};
-ghost use Rattle.magnitudes.specs.Modes.{modeOf, overflows};
+ghost use Prim.Native.Nat.{_*_, _/_, _%_, _^_, _<_};
+ghost use Rattle.magnitudes.specs.Modes.{modeOf, overflows, u};
 ghost use Rattle.magnitudes.specs.Increments.{increment};
 use super::Mode;
 use places::high_part;
-use places::low_part;
+
+// The sign bit.
+const SIGN: u64 = 0x8000_0000_0000_0000;
 
 // The mode with this number. Numbers above 8 are for the caller to refuse; here they are 8.
 pub fn mode_of(mode: u64, r: u64) -> Mode
@@ -36,16 +38,16 @@ fn all_if(test: bool, n: u64) -> u64
     0
 }
 
-// The share of 2^d that u is of 2^r, rounded down.
-fn share(u: u64, r: u64, d: u64) -> u64
-    requires { ⌜ u < 2 ^ r ⌝ }
+// The share of 2^d that the last r bits of the word are of 2^r, rounded down. They are moved up to the bits
+// below the sign, and from there down to those below place d.
+fn share(word: u64, r: u64, d: u64) -> u64
     requires { ⌜ d < 64 ⌝ }
-    ensures { λ y. ⌜ y ≡ u * 2 ^ d / 2 ^ r ⌝ }
+    ensures { λ y. ⌜ y ≡ u r word * 2 ^ d / 2 ^ r ⌝ }
 {
-    if r <= d {
-        return u << (d - r);
+    if r < 64 {
+        return ((word << (63 - r)) % SIGN) >> (63 - d);
     }
-    high_part(u, r - d)
+    high_part(word, r - d)
 }
 
 // What the mode adds below place d: by the sign, lo's m and the word.
@@ -55,20 +57,27 @@ pub(crate) fn increment_of(mode: Mode, negative: bool, m: u64, d: u64, word: u64
 {
     let below = (1 << d) - 1;
     match mode {
-        Mode::TiesToEven => low_part((below >> 1) + m % 2, d),
+        Mode::TiesToEven => ((below >> 1) + m % 2) & below,
         Mode::TiesToZero => below >> 1,
         Mode::TiesAway => (1 << d) >> 1,
         Mode::TowardZero => 0,
         Mode::TowardPlus => all_if(!negative, below),
         Mode::TowardMinus => all_if(negative, below),
-        Mode::ToOdd => low_part(below + m % 2, d),
-        Mode::Stochastic(r) => share(low_part(word, r), r, d),
+        Mode::ToOdd => (below + m % 2) & below,
+        Mode::Stochastic(r) => share(word, r, d),
         Mode::EvenChance => all_if(word % 2 == 1, below),
     }
 }
 
+// The same for any place, which is counted round a word's 64.
+pub fn increment_at(mode: Mode, negative: bool, m: u64, d: u64, word: u64) -> u64
+    ensures { λ y. ⌜ y ≡ increment mode negative m (2 ^ (d % 64)) word ⌝ }
+{
+    increment_of(mode, negative, m, d % 64, word)
+}
+
 // Whether a magnitude from T on becomes infinity; where not, it becomes xmax.
-pub(crate) fn overflows_to_infinity(mode: Mode, negative: bool) -> bool
+pub fn overflows_to_infinity(mode: Mode, negative: bool) -> bool
     ensures { λ y. ⌜ y ≡ overflows mode negative ⌝ }
 {
     match mode {

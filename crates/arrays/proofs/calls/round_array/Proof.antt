@@ -1,17 +1,17 @@
 -- `arrays::calls::round_array` meets its contract. Assumes nothing.
 use borrow.Author.Needs.{needs}
-use Rattle.arrays.proofs.WholeCalls.{ready-lengths, ready-words, ready-report, ready-with-words, ready-without-words, refused-report, refused-output}
+use Rattle.arrays.proofs.WholeCalls.{ready-mode, ready-lengths, ready-words, ready-report, ready-with-words, ready-without-words, refused-report, refused-output}
 use Rattle.arrays.proofs.calls.round_array.Statement.{statement}
 use Rattle.arrays.proofs.calls.round_array.Tie as tie
 
 round-all-requires : tie.Need-round-all-requires
-round-all-requires c κs = (search ready-words, search ready-lengths)
+round-all-requires c κs = (search ready-mode, (search ready-words, search ready-lengths))
 
 returns : tie.Need-returns
 returns c = (search ready-report, search ready-with-words)
 
 round-all-requires-2 : tie.Need-round-all-requires-2
-round-all-requires-2 c κs = (search needs, search ready-lengths)
+round-all-requires-2 c κs = (search ready-mode, (search needs, search ready-lengths))
 
 returns-2 : tie.Need-returns-2
 returns-2 c = (search ready-report, search ready-without-words)

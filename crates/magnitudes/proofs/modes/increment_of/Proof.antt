@@ -1,15 +1,12 @@
 -- `magnitudes::modes::increment_of` meets its contract. Assumes nothing.
 use borrow.Author.Needs.{needs}
 use Rattle.laws.proofs.Words.{one-shifted-some}
-use Rattle.magnitudes.proofs.Increments.{random-below, ties-to-even-adds, ties-to-zero-adds, ties-away-adds, toward-zero-adds, toward-plus-adds, toward-minus-adds, to-odd-adds, stochastic-adds, even-chance-adds}
+use Rattle.magnitudes.proofs.Increments.{ties-to-even-adds, ties-to-zero-adds, ties-away-adds, toward-zero-adds, toward-plus-adds, toward-minus-adds, to-odd-adds, stochastic-adds, even-chance-adds}
 use Rattle.magnitudes.proofs.modes.increment_of.Statement.{statement}
 use Rattle.magnitudes.proofs.modes.increment_of.Tie as tie
 
 sub-below : tie.Need-sub-below
 sub-below c = search one-shifted-some
-
-share-requires : tie.Need-share-requires
-share-requires c κs = (search random-below, search needs)
 
 returns : tie.Need-returns
 returns c = search ties-to-even-adds
@@ -46,7 +43,6 @@ increment-of-spec =
     sub-below
     (λ c. search needs)
     (λ c. search needs)
-    (λ c κs. search needs)
     (λ c. search needs)
     (λ c. search needs)
     (λ c. search needs)
@@ -57,10 +53,8 @@ increment-of-spec =
     (λ c κs. search needs)
     (λ c. search needs)
     (λ c. search needs)
-    (λ c κs. search needs)
     (λ c. search needs)
     (λ c κs. search needs)
-    share-requires
     (λ c. search needs)
     (λ c κs. search needs)
     returns
