@@ -1,12 +1,16 @@
 -- Lengths in bytes: whether one of two is ragged, how many words an output counts for, and what that count tells. Assumes nothing.
 use mathlib.Core.Bool.{Bool, true, false, not, _||_, true≢false}
 use mathlib.Core.List.{List}
-use mathlib.Core.Path.{_≡_, refl, sym, _∙_}
+use mathlib.Core.Path.{_≡_, refl, sym, ap, _∙_}
 use Prim.Native.Nat.{ℕ, _+_, _*_, _/_, _%_}
 use native.Mathlib.Omega.{arith}
 use lib.Dec.{eqb}
 use lib.ListN.{length}
 use borrow.Author.Tests.{not-false, eqb-true, eq-eqb, ne-eqb}
+use Rattle.grid.specs.declared.Format.{Format}
+use Rattle.rounding.specs.declared.Prepared.{Prepared}
+use Rattle.codearrays.specs.Codes.{thenLengths}
+use Rattle.arrays.specs.Loops.{decided}
 use Rattle.bytearrays.specs.Bytes.{wordsOf, ragged, oneRagged}
 use Rattle.bytearrays.specs.Loops.{outputWords}
 use Rattle.bytearrays.proofs.WordLists.{length-words-of}
@@ -71,3 +75,12 @@ pub whole-count : (xs out : List ℕ) → oneRagged (length xs) (length out) ≡
     → outputWords (length xs) (length out) ≡ length (wordsOf out)
 whole-count xs out none =
     sym (counts-own (length xs) (length out) (oneRagged (length xs) (length out)) refl none) ∙ sym (length-words-of out)
+
+-- ---- what is decided by a count that was worked out before
+
+module _ (counted outputs : ℕ) (same : counted ≡ outputs) where
+  pub decided-by : (f : Format) (mode r words inputs : ℕ) (y : Prepared) → y ≡ decided f mode r words inputs counted → y ≡ decided f mode r words inputs outputs
+  decided-by f mode r words inputs y is = is ∙ ap (decided f mode r words inputs) same
+
+  pub lengths-by : (number inputs y : ℕ) → y ≡ thenLengths number inputs counted → y ≡ thenLengths number inputs outputs
+  lengths-by number inputs y is = is ∙ ap (thenLengths number inputs) same

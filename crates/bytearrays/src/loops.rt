@@ -23,7 +23,7 @@ use sweeps::stretch_end;
 
 // How many stretches go by the tables before one is swept again: from the first that did not fit on, and where
 // the next that was swept did not fit either. All these numbers are those of the crate arrays.
-const FIRST_PATIENCE: u64 = 4;
+const FIRST_PATIENCE: u64 = 5;
 
 const PATIENCE: u64 = 32;
 

@@ -29,12 +29,13 @@ use Rattle.rounding.specs.BySettings.{roundedBy}
 use Rattle.rounding.proofs.BySettings.{zero-back, nan-back, finite-rounded}
 use Rattle.sweeps.specs.Limits.{sound, Sound}
 use Rattle.sweeps.specs.Rules.{fieldOf, placeRule, placeTable}
-use Rattle.sweeps.specs.Rows.{bitOf, addsShare, addedBehind, rowPart, rowWord, rowTable, addedBy, byRow}
+use Rattle.sweeps.specs.Rows.{bitOf, addsShare, addedBehind, rowPart, rowOf, isTaken, rowWord, rowTable, addedBy, byRow}
 use Rattle.sweeps.proofs.Soundness.{sound-facts}
 use Rattle.sweeps.proofs.Sums.{sum-is-rounded}
 use Rattle.sweeps.proofs.Fields.{field-within, field-of-number, field-of-zero, listed-sound, FieldCase, kept, cleared, whole, field-case}
 use Rattle.sweeps.proofs.Bits.{bit-small, rowAdds, row-adds-below, row-adds-increment, overflows-by-bit}
 use Rattle.sweeps.proofs.RowWords.{nothing-before, nothing-behind}
+use Rattle.sweeps.proofs.RowFills.{none-cut-taken, place-taken, sign-taken, taken-word}
 
 -- ---- what stands in the tables
 
@@ -44,12 +45,14 @@ unfolding placeTable
 listed-place s x places is = ap (λ (l : List ℕ). getD l (fieldOf x) 0) is ∙ getD-tab 2048 (placeRule s) (fieldOf x) 0 (field-within x)
 
 -- a word of the row of a place and a bit
-listed-word : (s : Settings) (rows : List ℕ) → rows ≡ rowTable s → (d bit part at : ℕ) → d < 64 → bit < 2 → part < 4 → at ≡ 8 * d + 4 * bit + part
-    → getD rows at 0 ≡ rowPart s d bit part
-unfolding rowTable rowWord
-listed-word s rows is d bit part at few small within e =
+listed-word : (s : Settings) (rows : List ℕ) → rows ≡ rowTable s → (d bit part at : ℕ) → isTaken (s .cut) d ≡ true → d < 64 → bit < 2 → part < 4
+    → at ≡ 8 * d + 4 * bit + part → getD rows at 0 ≡ rowPart s d bit part
+unfolding rowTable rowOf
+listed-word s rows is d bit part at taken few small within e =
+    let place : at / 8 ≡ d = omega arith in
     ap (λ (l : List ℕ). getD l at 0) is
     ∙ getD-tab 512 (rowWord s) at 0 (omega arith)
+    ∙ taken-word s at (ap (isTaken (s .cut)) place ∙ taken)
     ∙ ap₂ (λ (k b : ℕ). rowPart s k b (at % 4)) (omega arith) (omega arith)
     ∙ ap (rowPart s d bit) (omega arith)
 
@@ -65,6 +68,28 @@ place-few s facts m normal near = go (below-or-not (s .emin) (m / 2 ^ 52 + 52))
         (omega (arith, facts .cut-most))
     go (inr small) =
         subst (λ (k : ℕ). k < 53) (place-below-normal (s .cut) (s .emin) (s .bottom) m (m / 2 ^ 52 + 52) (digits-normal m normal) small) (omega arith)
+
+-- no fewer digits are cut than in the normal range
+place-many : (s : Settings) → Sound s → (m : ℕ) → 2 ^ 52 ≤ m → s .cut ≤ place (s .cut) (s .emin) (s .bottom) m
+place-many s facts m normal = go (below-or-not (s .emin) (m / 2 ^ 52 + 52))
+  where
+    go : (s .emin < m / 2 ^ 52 + 52) ⊎ (m / 2 ^ 52 + 52 ≤ s .emin) → s .cut ≤ place (s .cut) (s .emin) (s .bottom) m
+    go (inl above) =
+        subst (λ (k : ℕ). s .cut ≤ k) (place-normal (s .cut) (s .emin) (s .bottom) m (m / 2 ^ 52 + 52) (digits-normal m normal) above) (omega arith)
+    go (inr small) =
+        subst (λ (k : ℕ). s .cut ≤ k) (place-below-normal (s .cut) (s .emin) (s .bottom) m (m / 2 ^ 52 + 52) (digits-normal m normal) small)
+        (omega (arith, facts .bottom-least))
+
+-- so the place of a field has its row
+field-taken : (s : Settings) → Sound s → (q d : ℕ) → FieldCase s q d → isTaken (s .cut) d ≡ true
+field-taken s facts q d (kept least before at) =
+    let m = q * 2 ^ 52 in
+    let is : d ≡ place (s .cut) (s .emin) (s .bottom) m = at m (omega arith) in
+    let few : d < 53 = subst (λ (k : ℕ). k < 53) (sym is) (place-few s facts m (omega arith) (omega arith)) in
+    let many : s .cut ≤ d = subst (λ (k : ℕ). s .cut ≤ k) (sym is) (place-many s facts m (omega arith)) in
+    place-taken (s .cut) d many few
+field-taken s facts q d (cleared past before e) = ap (isTaken (s .cut)) e ∙ sign-taken (s .cut)
+field-taken s facts q d (whole last e) = ap (isTaken (s .cut)) e ∙ none-cut-taken (s .cut)
 
 -- ---- what a row makes of a pattern
 
@@ -112,16 +137,16 @@ module _ (s : Settings) (word x : ℕ) (fits : x < 2 ^ 64) where
   answer d = (bitAnd ((x + rowAdds (s .mode) word x d) % 2 ^ 64) (2 ^ 64 - 2 ^ d) + addedBehind s d (bitOf (s .mode) word x d)) % 2 ^ 64
 
   -- the code's answer is that of the row of the place
-  row-answer : (rows : List ℕ) → rows ≡ rowTable s → (d : ℕ) → d < 64 → byRow (s .mode) rows d word x ≡ answer d
+  row-answer : (rows : List ℕ) → rows ≡ rowTable s → (d : ℕ) → isTaken (s .cut) d ≡ true → d < 64 → byRow (s .mode) rows d word x ≡ answer d
   unfolding byRow rowPart
-  row-answer rows is d few =
+  row-answer rows is d taken few =
       let bit = bitOf (s .mode) word x d in
       let small = bit-small (s .mode) word x d fits in
       simp (
         mod-eq-of-lt few,
-        listed-word s rows is d bit 0 (8 * d + 4 * bit) few small (omega arith) (omega arith),
-        listed-word s rows is d bit 1 (8 * d + 4 * bit + 1) few small (omega arith) refl,
-        listed-word s rows is d bit 2 (8 * d + 4 * bit + 2) few small (omega arith) refl,
+        listed-word s rows is d bit 0 (8 * d + 4 * bit) taken few small (omega arith) (omega arith),
+        listed-word s rows is d bit 1 (8 * d + 4 * bit + 1) taken few small (omega arith) refl,
+        listed-word s rows is d bit 2 (8 * d + 4 * bit + 2) taken few small (omega arith) refl,
       )
 
   -- ---- below the place of the sign
@@ -279,5 +304,5 @@ row-is-rounded s word x fits mode named places rows listed filled place looked w
     let q = fieldOf x in
     let rule : place ≡ placeRule s q = looked ∙ listed-place s x places listed in
     let ok = listed-sound s q place rule within in
-    is ∙ ap (λ (n : Mode). byRow n rows place word x) named ∙ row-answer s word x fits rows filled place within
+    is ∙ ap (λ (n : Mode). byRow n rows place word x) named ∙ row-answer s word x fits rows filled place (field-taken s (sound-facts s ok) q place (field-case s q place ok rule within)) within
     ∙ by-field s word x fits q place refl ok (field-case s q place ok rule within)

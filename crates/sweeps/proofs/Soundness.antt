@@ -38,7 +38,7 @@ module _ (cut emin bottom : ℕ) where
       unfolding soundPlaces
       ends-too-high h = simp (le-leb cut 51 few, le-leb 52 emin normal, lt-leb bottom emin h)
 
-      pub places-asked : bottom ≤ emin → leb (emin - bottom) 52 ≡ soundPlaces cut emin bottom
+      pub places-asked : bottom ≤ emin → leb (emin - bottom) (52 - cut) ≡ soundPlaces cut emin bottom
       unfolding soundPlaces
       places-asked h = simp (le-leb cut 51 few, le-leb 52 emin normal, le-leb bottom emin h)
 
@@ -49,7 +49,7 @@ module _ (cut emin bottom : ℕ) where
     unfolding soundPlaces
     cuts-few = leb-true cut 51 (and-left _ _ (sym tested ∙ passed))
 
-    after-cut : (leb 52 emin && (leb bottom emin && leb (emin - bottom) 52)) ≡ true
+    after-cut : (leb 52 emin && (leb bottom emin && leb (emin - bottom) (52 - cut))) ≡ true
     unfolding soundPlaces
     after-cut = and-right (leb cut 51) _ (sym tested ∙ passed)
 
@@ -57,16 +57,16 @@ module _ (cut emin bottom : ℕ) where
     pub starts-normal : 52 ≤ emin
     starts-normal = leb-true 52 emin (and-left _ _ after-cut)
 
-    after-start : (leb bottom emin && leb (emin - bottom) 52) ≡ true
+    after-start : (leb bottom emin && leb (emin - bottom) (52 - cut)) ≡ true
     after-start = and-right (leb 52 emin) _ after-cut
 
     ends-below : bottom ≤ emin
     ends-below = leb-true bottom emin (and-left _ _ after-start)
 
-    ends-near : emin ≤ bottom + 52
+    ends-near : emin + cut ≤ bottom + 52
     ends-near =
-        let near : emin - bottom ≤ 52 = leb-true (emin - bottom) 52 (and-right (leb bottom emin) _ after-start) in
-        omega arith
+        let near : emin - bottom ≤ 52 - cut = leb-true (emin - bottom) (52 - cut) (and-right (leb bottom emin) _ after-start) in
+        omega (arith, cuts-few)
 
 -- ---- T and xmax
 
@@ -165,7 +165,7 @@ facts-sound s f =
       le-leb (s .cut) 51 (f .cut-most),
       le-leb 52 (s .emin) (f .emin-least),
       le-leb (s .bottom) (s .emin) (f .bottom-most),
-      le-leb (s .emin - s .bottom) 52 (omega (arith, f .bottom-least)),
+      le-leb (s .emin - s .bottom) (52 - s .cut) (omega (arith, f .bottom-least)),
       le-leb (s .top) infinity (f .top-most),
       eq-eqb (s .top % 2 ^ 52) 0 (f .top-whole),
       lt-ltb (s .emin - 51) (s .top / 2 ^ 52) (f .top-above),

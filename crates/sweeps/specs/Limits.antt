@@ -9,10 +9,10 @@ use Rattle.magnitudes.specs.declared.Mode.the-variants.{TiesToEven, TiesToZero,
 use Rattle.magnitudes.specs.declared.Settings.{Settings}
 use Rattle.sweeps.specs.declared.Limits.{Limits}
 
--- Digits are cut as by a format: at most 51 in the normal range, which starts at a normal binary64 number, and below it from
--- zeta's exponent on, which is at most 52 below that start.
+-- Digits are cut as by a format: at most 51 in the normal range, which starts at a normal binary64 number, and below it no
+-- fewer, from zeta's exponent on.
 unfoldable pub soundPlaces : ℕ → ℕ → ℕ → Bool
-soundPlaces cut emin bottom = leb cut 51 && (leb 52 emin && (leb bottom emin && leb (emin - bottom) 52))
+soundPlaces cut emin bottom = leb cut 51 && (leb 52 emin && (leb bottom emin && leb (emin - bottom) (52 - cut)))
 
 -- T is a power of two's pattern above the start of the normal range and not above infinity's, and xmax is one step below T
 unfoldable pub soundTop : ℕ → ℕ → ℕ → ℕ → Bool
@@ -27,7 +27,7 @@ pub record Sound (s : Settings) : Type 0 where
   pub cut-most : s .cut ≤ 51
   pub emin-least : 52 ≤ s .emin
   pub bottom-most : s .bottom ≤ s .emin
-  pub bottom-least : s .emin ≤ s .bottom + 52
+  pub bottom-least : s .emin + s .cut ≤ s .bottom + 52
   pub top-most : s .top ≤ infinity
   pub top-whole : s .top % 2 ^ 52 ≡ 0
   pub top-above : s .emin - 51 < s .top / 2 ^ 52

@@ -1,9 +1,9 @@
 -- The second table: what is kept and added, by the place and one bit. Assumes nothing.
 use mathlib.Core.Bool.{Bool, true, false, cond}
 use mathlib.Core.List.{List}
-use Prim.Native.Nat.{ℕ, _+_, _-_, _*_, _/_, _%_, _^_}
+use Prim.Native.Nat.{ℕ, _+_, _-_, _*_, _/_, _%_, _^_, min, max}
 use lib.Bits.{bitAnd}
-use lib.Dec.{ltb, eqb}
+use lib.Dec.{leb, ltb, eqb}
 use lib.ListN.{getD}
 use Rattle.laws.specs.Lists.{tab}
 use Rattle.patterns.specs.Patterns.{infinity}
@@ -57,9 +57,21 @@ rowPart s d bit part =
     (cond (eqb part 1) (addedBefore (s .mode) d bit)
     (cond (eqb part 2) (addedBehind s d bit) 0))
 
--- the words of the table: two rows for each place, one for each bit
+-- two rows for each place, one for each bit
+unfoldable pub rowOf : Settings → ℕ → ℕ
+rowOf s at = rowPart s (at / 8) (at / 4 % 2) (at % 4)
+
+-- the first place past 0 that a number may have: the cut
+unfoldable pub firstPlace : ℕ → ℕ
+firstPlace cut = max 1 (min cut 53)
+
+-- a number may have the place: 0, those from the cut to the fraction's last, or the sign's
+unfoldable pub isTaken : ℕ → ℕ → Bool
+isTaken cut d = cond (ltb d 1) true (cond (ltb d (firstPlace cut)) false (cond (ltb d 53) true (leb 63 d)))
+
+-- the words of the table: the rows of the other places are blank
 unfoldable pub rowWord : Settings → ℕ → ℕ
-rowWord s at = rowPart s (at / 8) (at / 4 % 2) (at % 4)
+rowWord s at = cond (isTaken (s .cut) (at / 8)) (rowOf s at) 0
 
 -- the table: 128 rows
 unfoldable pub rowTable : Settings → List ℕ

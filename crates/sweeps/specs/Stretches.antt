@@ -1,15 +1,21 @@
 -- How a whole array is cut into stretches, and how one of them is swept. Assumes nothing.
+use mathlib.Core.Bool.{cond}
 use mathlib.Core.List.{List}
 use mathlib.Core.Path.{_≡_}
 use Prim.Native.Nat.{ℕ, _+_, min}
+use lib.Dec.{eqb}
 use Rattle.magnitudes.specs.declared.Mode.{Mode}
 use Rattle.magnitudes.specs.declared.Settings.{Settings}
 use Rattle.sweeps.specs.declared.Limits.{Limits}
 use Rattle.sweeps.specs.Limits.{limits}
 
--- where the stretch from a place on ends, of n places: 256 further, or at the last
+-- how many places the stretch from a place on has: the first one is short
+unfoldable pub stretchPlaces : ℕ → ℕ
+stretchPlaces from = cond (eqb from 0) 32 256
+
+-- where it ends, of n places: so many further, or at the last
 unfoldable pub stretchEnd : ℕ → ℕ → ℕ
-stretchEnd from n = min (from + 256) n
+stretchEnd from n = min (from + stretchPlaces from) n
 
 -- A list on its way from `before` to `after`, while its places from `from` to below `to` are swept by limits and a mode. `Done s n l`
 -- says that the places of l below n are rounded by the settings s, and `Fit` that everything swept fits. What was rounded stays

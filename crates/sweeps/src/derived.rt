@@ -29,7 +29,7 @@ fn places_are_sound(cut: u64, emin: u64, bottom: u64) -> bool
     if emin < bottom {
         return false;
     }
-    emin - bottom <= 52
+    emin - bottom <= 52 - cut
 }
 
 // Whether T and xmax are as a format's.

@@ -1,11 +1,11 @@
 // The second table: what is kept and what is added, by the place and by one bit that the mode looks at. A row
 // has four words: the digits that are kept, what is added before, what is added behind, and one that is unused.
 ghost use mathlib.Core.Path.{_≡_};
-ghost use Prim.Native.Nat.{_+_, _*_, _-_, _<_, _^_};
+ghost use Prim.Native.Nat.{_+_, _*_, _-_, _≤_, _<_, _^_};
 ghost use lib.ListN.{length};
-ghost use Rattle.laws.specs.Fills.{FilledTo};
 ghost use Rattle.magnitudes.specs.Modes.{modeOf};
-ghost use Rattle.sweeps.specs.Rows.{bitOf, lastDigit, addsShare, addedBefore, addedBehind, rowWord, rowTable, addedBy, byRow};
+ghost use Rattle.sweeps.specs.Rules.{Painted};
+ghost use Rattle.sweeps.specs.Rows.{bitOf, lastDigit, addsShare, addedBefore, addedBehind, rowOf, firstPlace, rowTable, addedBy, byRow};
 use magnitudes::Mode;
 use magnitudes::Settings;
 use magnitudes::increment_at;
@@ -98,9 +98,8 @@ fn added_behind(s: Settings, d: u64, bit: u64) -> u64
 fn put_row(s: Settings, rows: &mut [u64], i: usize)
     requires row { ⌜ i < 128 ⌝ }
     requires long { ⌜ length (now rows) ≡ 512 ⌝ }
-    requires filled { ⌜ FilledTo (rowWord s) (4 * i) (now rows) ⌝ }
     ensures long { λ y. ⌜ length (now (rows .exit)) ≡ 512 ⌝ }
-    ensures filled { λ y. ⌜ FilledTo (rowWord s) (4 * (i + 1)) (now (rows .exit)) ⌝ }
+    ensures filled { λ y. ⌜ Painted (rowOf s) (4 * i) (4 * (i + 1)) (now (rows .entry)) (now (rows .exit)) ⌝ }
 {
     let mode = s.mode;
     let at = 4 * i;
@@ -112,23 +111,68 @@ fn put_row(s: Settings, rows: &mut [u64], i: usize)
     rows[at + 3] = 0;
 }
 
-// All rows written, one after the other.
-fn put_rows(s: Settings, rows: &mut [u64])
-    requires { ⌜ length (now rows) ≡ 512 ⌝ }
-    ensures { λ y. ⌜ now (rows .exit) ≡ rowTable s ⌝ }
+// The rows from `from` to below `to` written, one after the other.
+fn put_rows(s: Settings, rows: &mut [u64], from: usize, to: usize)
+    requires starts { ⌜ from ≤ to ⌝ }
+    requires ends { ⌜ to ≤ 128 ⌝ }
+    requires long { ⌜ length (now rows) ≡ 512 ⌝ }
+    ensures long { λ y. ⌜ length (now (rows .exit)) ≡ 512 ⌝ }
+    ensures filled { λ y. ⌜ Painted (rowOf s) (4 * from) (4 * to) (now (rows .entry)) (now (rows .exit)) ⌝ }
 {
-    let mut i = 0;
-    while i < 128 {
+    let mut i = from;
+    while i < to {
         put_row(s, rows, i);
         i += 1;
     }
+}
+
+// The rows from `from` to below `to` blanked: no number has their places.
+fn blank_rows(rows: &mut [u64], from: usize, to: usize)
+    requires starts { ⌜ from ≤ to ⌝ }
+    requires ends { ⌜ to ≤ 128 ⌝ }
+    requires long { ⌜ length (now rows) ≡ 512 ⌝ }
+    ensures long { λ y. ⌜ length (now (rows .exit)) ≡ 512 ⌝ }
+    ensures filled { λ y. ⌜ Painted (λ k. 0) (4 * from) (4 * to) (now (rows .entry)) (now (rows .exit)) ⌝ }
+{
+    let end = 4 * to;
+    let mut i = 4 * from;
+    while i < end {
+        rows[i] = 0;
+        i += 1;
+    }
+}
+
+// The first place past 0 that a number may have: the cut.
+fn first_place(cut: u64) -> usize
+    ensures { λ y. ⌜ y ≡ firstPlace cut ⌝ }
+{
+    if cut == 0 {
+        return 1;
+    }
+    if 53 < cut {
+        return 53;
+    }
+    cut as usize
+}
+
+// The table written from the first row to the last: those of the places that a number may have, and blank ones.
+fn fill_by_place(s: Settings, rows: &mut [u64])
+    requires { ⌜ length (now rows) ≡ 512 ⌝ }
+    ensures { λ y. ⌜ now (rows .exit) ≡ rowTable s ⌝ }
+{
+    let first = 2 * first_place(s.cut);
+    put_rows(s, rows, 0, 2);
+    blank_rows(rows, 2, first);
+    put_rows(s, rows, first, 106);
+    blank_rows(rows, 106, 126);
+    put_rows(s, rows, 126, 128);
 }
 
 // The table for the settings.
 pub fn fill_rows(s: Settings, rows: &mut [u64; 512])
     ensures { λ y. ⌜ now (rows .exit) ≡ rowTable s ⌝ }
 {
-    put_rows(s, rows);
+    fill_by_place(s, rows);
 }
 
 // What is added of a row's word, by the random word where the mode adds a share.

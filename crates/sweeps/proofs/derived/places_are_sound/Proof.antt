@@ -1,4 +1,5 @@
 -- `sweeps::derived::places_are_sound` meets its contract. Assumes nothing.
+use borrow.Author.Needs.{needs}
 use Rattle.sweeps.proofs.Soundness.{cuts-too-many, starts-too-low, ends-too-high, places-asked}
 use Rattle.sweeps.proofs.derived.places_are_sound.Statement.{statement}
 use Rattle.sweeps.proofs.derived.places_are_sound.Tie as tie
@@ -16,4 +17,4 @@ returns-4 : tie.Need-returns-4
 returns-4 c = search places-asked
 
 pub places-are-sound-spec : {M : Type 1} → statement M
-places-are-sound-spec = tie.close (tie.spec returns returns-2 returns-3 returns-4)
+places-are-sound-spec = tie.close (tie.spec returns returns-2 returns-3 (λ c. search needs) returns-4)

@@ -17,4 +17,4 @@ unfolding stretchEnd
 returns-3 c = search needs
 
 pub stretch-end-spec : {M : Type 1} → statement M
-stretch-end-spec = tie.close (tie.spec returns (λ c. search needs) (λ c. search needs) returns-2 (λ c. search needs) returns-3)
+stretch-end-spec = tie.close (tie.spec returns (λ c. search needs) (λ c κs. search needs) (λ c. search needs) returns-2 (λ c. search needs) returns-3)
