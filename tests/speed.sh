@@ -18,7 +18,8 @@ loops=18
 # three formats, nine modes
 rows=27
 
-# Instructions an element at most, of words and of bytes, in calls of 1024. Those by tables have the filling in them.
+# Instructions an element at most, of words and of bytes, in calls of so many. Those by tables have the filling in them.
+counted=512
 declare -A most=([normal]=16 [subnormal]=44)
 
 room=$(mktemp -d)
@@ -52,7 +53,7 @@ if [ "$(uname -m)" = x86_64 ]; then
     need_compiler c
     "${compiler[@]}" -std=c99 -O3 -I include bench/*.c "$room/host.o" -o "$room/bench" || fail "bench/ could not be compiled and linked"
     for kind in "${!most[@]}"; do
-        "$room/bench" all all "$kind" 0 1024 >"$room/$kind" || fail "bench/ has not counted instructions"
+        "$room/bench" all all "$kind" 0 "$counted" >"$room/$kind" || fail "bench/ has not counted instructions"
         [ "$(grep -c " $kind " "$room/$kind")" -eq $rows ] || fail "bench/ has not counted $rows rows of $kind data"
         [ -z "$(too_many "$kind")" ] || {
             too_many "$kind" >&2
