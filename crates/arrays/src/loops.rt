@@ -24,7 +24,7 @@ const FIRST_PATIENCE: u64 = 5;
 const PATIENCE: u64 = 32;
 
 // How many places are left at least where the tables are worth their filling.
-const WORTH_TABLES: usize = 128;
+const WORTH_TABLES: usize = 40;
 
 // Every stretch swept up to the first of which not every number fits. Answers where that starts.
 fn sweep_on(s: Settings, mode: u64, r: u64, words: &[u64], xs: &[u64], out: &mut [u64]) -> usize

@@ -28,7 +28,7 @@ const FIRST_PATIENCE: u64 = 5;
 const PATIENCE: u64 = 32;
 
 // How many places are left at least where the tables are worth their filling.
-const WORTH_TABLES: usize = 128;
+const WORTH_TABLES: usize = 40;
 
 // Every stretch swept up to the first of which not every number fits. Answers where that starts.
 fn sweep_on(s: Settings, mode: u64, r: u64, words: &[u8], xs: &[u8], out: &mut [u8]) -> usize
