@@ -18,9 +18,11 @@ loops=18
 # three formats, nine modes
 rows=27
 
-# Instructions an element at most, of words and of bytes, in calls of so many. Those by tables have the filling in them.
+# how many numbers the calls have in which instructions are counted
 counted=512
-declare -A most=([normal]=16 [subnormal]=44)
+
+# Instructions an element at most, of words and of bytes. Those by tables have the filling in them.
+declare -A most=([normal]=16 [subnormal]=46)
 
 room=$(mktemp -d)
 trap 'rm -rf "$room"' EXIT

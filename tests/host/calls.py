@@ -175,7 +175,7 @@ def all_midpoints(draw, long):
 
 
 def many_lengths(draw, _long):
-    lengths = (0, 1, 2, 3, 7, 8, 63, 64, 65, 127, 128, 129, 255, 256, 257, 1000)
+    lengths = (0, 1, 2, 3, 7, 8, 31, 32, 33, 39, 40, 41, 71, 72, 73, 255, 256, 257, 287, 288, 289, 1000)
     for (p, emax), n in itertools.product(((11, 15), (8, 127), (3, 15), (53, 1023)), lengths):
         for mode in range(9):
             f, xs = (p, emax, draw.choice((0, *ON))), mixed(p, emax, n, draw)
@@ -190,7 +190,7 @@ def one_odd_place(draw, long):
     for p, emax in ((11, 15), *(((8, 127), (3, 15)) if long else ())):
         odd = [last_pattern(number) for number in (power(1 - emax) - 1, power(2 - emax - p) // 2, power(emax + 1))]
         odd += [last_pattern(power(emax + 1) - 1), 0, SIGN, INFINITY, INFINITY + 1]
-        for mode, place in itertools.product(range(9), (0, 1, 31, 62, 63, 64, 127, 128, 255, 256, 257, 299)):
+        for mode, place in itertools.product(range(9), (0, 1, 31, 32, 33, 255, 256, 257, 258, 259, 260, 287, 288, 299)):
             xs = [ordinary(p, emax, draw) for _ in range(300)]
             xs[place] = draw.choice(odd) | draw.getrandbits(1) << 63
             yield rounding((p, emax, 1), mode, 9, drawn_words(300, draw), xs)

@@ -49,8 +49,8 @@ fn look_up(
     }
 }
 
-// The same. The arms are alike: the compiler makes a loop of its own for each mode, and so it does for mode 7,
-// whose loop is the longest, where that is the last.
+// The same. The arms are alike: the compiler makes a loop of its own for each mode. For mode 7, whose loop is the
+// longest, it does so only where that call is the last.
 pub(crate) fn look_up_stretch(
     s: Settings,
     mode: u64,

@@ -1,6 +1,6 @@
-// The loop over a whole array of bytes, stretch after stretch. It is swept as long as every number fits. From
-// the first stretch on that does not, stretches that do not fit go by tables, and behind two of them in a row a
-// good many more, so that data which never fits is not swept in vain.
+// The loop over a whole array of bytes, stretch after stretch. It is swept as long as every number fits. The first
+// stretch that does not fit and some behind it go by tables; then one is swept again, and where that does not fit
+// either, a good many more go by them, so that data which never fits is not swept in vain.
 ghost use mathlib.Core.Path.{_≡_};
 ghost use Prim.Native.Nat.{_*_, _/_, _≤_};
 ghost use lib.ListN.{length};

@@ -1,4 +1,4 @@
--- A call that is passed on with the format that C's numbers stand for: what is true of it with the one is true with the other.
+-- A call that is passed on with the format that C's numbers stand for: with an equal format it answers and leaves the same.
 -- Assumes nothing.
 use mathlib.Core.List.{List}
 use mathlib.Core.Path.{_≡_, ap, _∙_}

@@ -1,5 +1,5 @@
--- Painting the first table. Fields get their places from one field up to another: the start, a turn, and the end. The rule is
--- painted so, one stretch of fields after the other. Assumes nothing.
+-- Painting a table from one place up to another: the start, a turn, and the end; and the first table, whose rule is painted so,
+-- one stretch of fields after the other. Assumes nothing.
 use mathlib.Core.Bool.{Bool, true, false}
 use mathlib.Core.List.{List}
 use mathlib.Core.Path.{_≡_, sym, _∙_, subst}
@@ -16,10 +16,10 @@ use Rattle.sweeps.specs.Rules.{placeRule, placeTable, Painted}
 use Rattle.sweeps.proofs.Soundness.{sound-facts}
 use Rattle.sweeps.proofs.Fields.{rule-unsound, rule-nothing-kept, rule-below-normal, rule-normal, rule-before-top, rule-past-top, rule-largest, rule-special}
 
--- ---- from one field up to another
+-- ---- from one place up to another
 
 module _ (place : ℕ → ℕ) (from : ℕ) (l : List ℕ) where
-  -- at first no field is painted,
+  -- at first no place is painted,
   pub painted-none : Painted place from from l l
   painted-none = record { on = λ g says filled. subst (λ (n : ℕ). FilledTo g n l) (omega arith) filled }
 

@@ -139,17 +139,17 @@ module _ (cut : ℕ) where
     unfolding isTaken
     from-first some reached h = simp (le-ltb d 1 some, le-ltb d (firstPlace cut) reached, lt-ltb d 53 h)
 
-    past-fraction : firstPlace cut ≤ d → 53 ≤ d → isTaken cut d ≡ leb 63 d
+    past-digits : firstPlace cut ≤ d → 53 ≤ d → isTaken cut d ≡ leb 63 d
     unfolding isTaken
-    past-fraction reached past = simp (le-ltb d 1 (omega arith), le-ltb d (firstPlace cut) reached, le-ltb d 53 past)
+    past-digits reached past = simp (le-ltb d 1 (omega arith), le-ltb d (firstPlace cut) reached, le-ltb d 53 past)
 
     free-between : firstPlace cut ≤ d → 53 ≤ d → d < 63 → isTaken cut d ≡ false
-    free-between reached past h = past-fraction reached past ∙ lt-leb 63 d h
+    free-between reached past h = past-digits reached past ∙ lt-leb 63 d h
 
     from-sign : firstPlace cut ≤ d → 63 ≤ d → isTaken cut d ≡ true
-    from-sign reached past = past-fraction reached (omega arith) ∙ le-leb 63 d past
+    from-sign reached past = past-digits reached (omega arith) ∙ le-leb 63 d past
 
-    -- those from the cut on, within the fraction,
+    -- those from the cut on, up to the one in front of the fraction,
     pub place-taken : cut ≤ d → d < 53 → isTaken cut d ≡ true
     unfolding firstPlace
     place-taken many few = go (eq-zero-or-pos d)

@@ -9,8 +9,8 @@ use Rattle.magnitudes.specs.declared.Mode.the-variants.{TiesToEven, TiesToZero,
 use Rattle.magnitudes.specs.declared.Settings.{Settings}
 use Rattle.sweeps.specs.declared.Limits.{Limits}
 
--- Digits are cut as by a format: at most 51 in the normal range, which starts at a normal binary64 number, and below it no
--- fewer, from zeta's exponent on.
+-- Digits are cut as by a format: at most 51 in the normal range, which starts at a normal binary64 number, and below it more,
+-- from zeta's exponent on, which is not above that start.
 unfoldable pub soundPlaces : ℕ → ℕ → ℕ → Bool
 soundPlaces cut emin bottom = leb cut 51 && (leb 52 emin && (leb bottom emin && leb (emin - bottom) (52 - cut)))
 

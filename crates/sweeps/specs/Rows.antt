@@ -57,19 +57,19 @@ rowPart s d bit part =
     (cond (eqb part 1) (addedBefore (s .mode) d bit)
     (cond (eqb part 2) (addedBehind s d bit) 0))
 
--- two rows for each place, one for each bit
+-- the words of a table without blanks: two rows for each place, one for each bit
 unfoldable pub rowOf : Settings → ℕ → ℕ
 rowOf s at = rowPart s (at / 8) (at / 4 % 2) (at % 4)
 
--- the first place past 0 that a number may have: the cut
+-- the first place past 0 that a number may have: the cut, but at least 1 and at most 53
 unfoldable pub firstPlace : ℕ → ℕ
 firstPlace cut = max 1 (min cut 53)
 
--- a number may have the place: 0, those from the cut to the fraction's last, or the sign's
+-- a number may have the place: 0, those from the cut to 52, where the one in front of the fraction stands, or the sign's
 unfoldable pub isTaken : ℕ → ℕ → Bool
 isTaken cut d = cond (ltb d 1) true (cond (ltb d (firstPlace cut)) false (cond (ltb d 53) true (leb 63 d)))
 
--- the words of the table: the rows of the other places are blank
+-- the words of the table: those of places that a number may have, and blank elsewhere
 unfoldable pub rowWord : Settings → ℕ → ℕ
 rowWord s at = cond (isTaken (s .cut) (at / 8)) (rowOf s at) 0
 

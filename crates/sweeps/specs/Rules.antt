@@ -30,7 +30,7 @@ placeRule s q =
 unfoldable pub placeTable : Settings → List ℕ
 placeTable s = tab 2048 (placeRule s)
 
--- A list on its way from l to l', while the fields from `from` to below `to` get their places: any rule that these places agree
--- with, and that l was filled with before `from`, l' is filled with before `to`.
+-- A list on its way from l to l', while what stands from `from` to below `to` is written by `place`: any rule that agrees with
+-- `place` there, and that l was filled with before `from`, l' is filled with before `to`. Both tables are written so.
 pub record Painted (place : ℕ → ℕ) (from to : ℕ) (l l' : List ℕ) : Type 0 where
   pub on : (g : ℕ → ℕ) → ((k : ℕ) → from ≤ k → k < to → g k ≡ place k) → FilledTo g from l → FilledTo g (max from to) l'

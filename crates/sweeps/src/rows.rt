@@ -1,7 +1,7 @@
 // The second table: what is kept and what is added, by the place and by one bit that the mode looks at. A row
 // has four words: the digits that are kept, what is added before, what is added behind, and one that is unused.
 ghost use mathlib.Core.Path.{_≡_};
-ghost use Prim.Native.Nat.{_+_, _*_, _-_, _≤_, _<_, _^_};
+ghost use Prim.Native.Nat.{_+_, _*_, _≤_, _<_};
 ghost use lib.ListN.{length};
 ghost use Rattle.magnitudes.specs.Modes.{modeOf};
 ghost use Rattle.sweeps.specs.Rules.{Painted};
@@ -142,7 +142,7 @@ fn blank_rows(rows: &mut [u64], from: usize, to: usize)
     }
 }
 
-// The first place past 0 that a number may have: the cut.
+// The first place past 0 that a number may have: the cut, but at least 1 and at most 53.
 fn first_place(cut: u64) -> usize
     ensures { λ y. ⌜ y ≡ firstPlace cut ⌝ }
 {
@@ -155,7 +155,8 @@ fn first_place(cut: u64) -> usize
     cut as usize
 }
 
-// The table written from the first row to the last: those of the places that a number may have, and blank ones.
+// The table written from the first row to the last, two rows a place: those of place 0, of the places from the cut
+// to 52, and of 63, and blank ones between.
 fn fill_by_place(s: Settings, rows: &mut [u64])
     requires { ⌜ length (now rows) ≡ 512 ⌝ }
     ensures { λ y. ⌜ now (rows .exit) ≡ rowTable s ⌝ }

@@ -2,7 +2,8 @@
 ghost use mathlib.Core.Path.{_≡_};
 ghost use Rattle.sweeps.specs.Stretches.{stretchPlaces, stretchEnd};
 
-// How many places a stretch has, and the first one, by which data that does not fit is soon found out.
+// How many places a stretch has; and the first one, which is short, so that data that does not fit is soon found
+// out.
 const STRETCH: usize = 256;
 
 const FIRST_STRETCH: usize = 32;
