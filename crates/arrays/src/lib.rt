@@ -2,6 +2,8 @@
 // too. A call decides first, by its numbers and the lengths of its arrays, and writes only where nothing
 // is refused. The contracts cite the definitions in specs/; start with specs/Lib.antt. Every callable
 // function answers for all inputs, arrays of any lengths among them.
+#![tactic(auto)]
+
 mod calls;
 mod decisions;
 mod looking;

@@ -1,6 +1,8 @@
 // Runs rounding, packing and unpacking on worked examples and writes what comes back. The whole text
 // has to be that of the file stdout, and tests/worked_examples.py holds that file to the rules of
 // document 01.
+#![tactic(auto)]
+
 mod answers;
 mod landmarks;
 mod numbers;

@@ -10,7 +10,7 @@ use std::num::wrapping_add_u64;
 const INFINITY: u64 = 0x7FF0_0000_0000_0000;
 
 // What has come of the codes so far.
-#[derive(Drop)]
+#[derive(Clone, Copy)]
 struct Tally {
     // codes refused as no number
     refused: u64,

@@ -2,6 +2,8 @@
 // out once for a format by `lay_out` of the crate layouts. The contracts cite the definitions in specs/;
 // start with specs/Lib.antt. Every callable function answers for all inputs, and for layouts of any
 // numbers; what the answers mean for the layout of a format is said in the crate codes.
+#![tactic(auto)]
+
 mod packing;
 mod unpacking;
 
@@ -9,14 +11,14 @@ pub use packing::pack_by;
 pub use unpacking::unpack_by;
 
 // The answer of packing: number 0 and the code, or the number of the refusal and code 0.
-#[derive(Drop)]
+#[derive(Clone, Copy)]
 pub struct Packed {
     pub number: u64,
     pub code: u64,
 }
 
 // The answer of unpacking: number 0 and the pattern, or the number of the refusal and pattern 0.
-#[derive(Drop)]
+#[derive(Clone, Copy)]
 pub struct Unpacked {
     pub number: u64,
     pub pattern: u64,

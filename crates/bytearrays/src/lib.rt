@@ -2,6 +2,8 @@
 // call decides as the call on words does, and works on the words where they stand among the bytes. The
 // contracts cite the definitions in specs/; start with specs/Lib.antt. Every callable function answers for
 // all inputs, arrays of any lengths among them.
+#![tactic(auto)]
+
 mod decisions;
 mod looking;
 mod loops;

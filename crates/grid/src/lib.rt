@@ -1,5 +1,7 @@
 // A target format's range and landmarks. The contracts cite the definitions in specs/; start with
 // specs/Lib.antt. Every function here answers for all inputs.
+#![tactic(auto)]
+
 mod formats;
 
 pub use formats::{
@@ -9,7 +11,7 @@ pub use formats::{
 
 // A target format: precision p in binary digits, the largest exponent emax, and whether subnormal
 // numbers are kept. Any numbers may stand here; `in_range` tells whether the format is one of ours.
-#[derive(Drop)]
+#[derive(Clone, Copy)]
 pub struct Format {
     pub p: u64,
     pub emax: u64,

@@ -3,6 +3,8 @@
 // given, the format as three numbers, and answer what the crates below answer. The contracts cite the
 // definitions in specs/; start with specs/Lib.antt. Every function answers for all inputs, arrays of any
 // lengths among them.
+#![tactic(auto)]
+
 mod bytes;
 mod formats;
 mod words;
@@ -13,7 +15,7 @@ pub use words::{wharfgrain_pack, wharfgrain_round, wharfgrain_unpack};
 
 // A known format as C has it: number 0 and the format, or number 11 and zeros.
 #[repr(C)]
-#[derive(Drop)]
+#[derive(Clone, Copy)]
 pub struct KnownFormat {
     pub number: u64,
     pub p: u64,

@@ -13,7 +13,7 @@ use lines::{Form, Found, read_line};
 const HEADS: usize = 6;
 
 // How far a text is read: so many lines, which take so many bytes.
-#[derive(Drop)]
+#[derive(Clone, Copy)]
 pub struct Reached {
     pub line: usize,
     pub at: usize,

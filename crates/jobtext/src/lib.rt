@@ -1,5 +1,7 @@
 // A job text run: read, rounded, and answered into a lent buffer. The contracts cite the definitions in
 // specs/; start with specs/Lib.antt. The one callable function answers for all texts and all buffers.
+#![tactic(auto)]
+
 mod answers;
 mod runs;
 

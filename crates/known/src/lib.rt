@@ -1,5 +1,7 @@
 // The known formats, looked up by number. The table stands here once; what it must hold is in
 // specs/Table.antt, in the order of document 01.
+#![tactic(auto)]
+
 ghost use Rattle.std.specs.Prelude.{◌≡◌};
 ghost use Rattle.known.specs.Table.{lookup};
 
@@ -7,7 +9,7 @@ use grid::Format;
 
 // The answer of a lookup: number 0 and the format, or number 11 and a format of zeros with
 // subnormals off.
-#[derive(Drop)]
+#[derive(Clone, Copy)]
 pub struct Lookup {
     pub number: u64,
     pub format: Format,

@@ -1,13 +1,15 @@
 // The bits of a format's own code: which formats have one, and the numbers by which patterns are
 // packed and codes unpacked, worked out once for a format. The contracts cite the definitions in
 // specs/; start with specs/Lib.antt. Every callable function answers for all inputs.
+#![tactic(auto)]
+
 mod derived;
 
 pub use derived::lay_out;
 
 // What depends only on the format. `normal` and `top` are binary64 patterns, `first`, `infinity` and
 // `nan` codes without a sign. Any numbers may stand here; `lay_out` makes those of a format.
-#[derive(Drop)]
+#[derive(Clone, Copy)]
 pub struct Layout {
     // whether subnormal numbers are kept
     pub sub: bool,
@@ -32,7 +34,7 @@ pub struct Layout {
 }
 
 // What a format comes to: number 0 and its layout, or the number of the refusal and zeros.
-#[derive(Drop)]
+#[derive(Clone, Copy)]
 pub struct Laid {
     pub number: u64,
     pub layout: Layout,

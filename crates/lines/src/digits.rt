@@ -7,7 +7,7 @@ ghost use Rattle.lines.specs.Reading.{worth as Reading·worth, run, value};
 const NO_DIGIT: u64 = 16;
 
 // The digits that a text begins with: how many there are, and what they are worth together.
-#[derive(Drop)]
+#[derive(Clone, Copy)]
 pub struct Digits {
     pub count: usize,
     pub value: u64,

@@ -1,6 +1,8 @@
 // One line of a job text or of its answer, `key=value` and a line feed: read from the start of a text, and
 // written to the start of a buffer. The contracts cite the definitions in specs/; start with
 // specs/Lib.antt. Every callable function answers for all inputs.
+#![tactic(auto)]
+
 mod digits;
 mod reading;
 mod writing;
@@ -13,14 +15,14 @@ const LINE_FEED: u8 = 10;
 
 // The form of a line's value: a decimal number, no larger than is said and of four digits at most, or a
 // word of sixteen hexadecimal digits.
-#[derive(Drop)]
+#[derive(Clone, Copy)]
 pub enum Form {
     Number(u64),
     Word,
 }
 
 // What a text begins with: a line with this value that takes this many bytes, or no such line.
-#[derive(Drop)]
+#[derive(Clone, Copy)]
 pub enum Found {
     Value(u64, usize),
     Nothing,

@@ -2,6 +2,8 @@
 // format and a mode. `mode_of` makes a mode of its number, and `round_magnitude` rounds; what a mode adds
 // below a place, and what it makes of overflow, can be asked for too. The contracts cite the definitions in
 // specs/; start with specs/Lib.antt. Every callable function answers for all inputs.
+#![tactic(auto)]
+
 mod destinations;
 mod modes;
 
@@ -10,7 +12,7 @@ pub use modes::{increment_at, mode_of, overflows_to_infinity};
 
 // The rounding modes, in the order of their numbers, 0 to 8. Stochastic rounding holds its count r
 // of random bits.
-#[derive(Drop)]
+#[derive(Clone, Copy)]
 pub enum Mode {
     TiesToEven,
     TiesToZero,
@@ -24,7 +26,7 @@ pub enum Mode {
 }
 
 // What depends only on the format and the mode, worked out once for many patterns.
-#[derive(Drop)]
+#[derive(Clone, Copy)]
 pub struct Settings {
     pub mode: Mode,
     // how many digits of a significand are cut in the normal range

@@ -1,5 +1,7 @@
 // Reading binary64 patterns. The contracts cite the definitions in
 // specs/; start with specs/Lib.antt. Every function here answers for all inputs.
+#![tactic(auto)]
+
 mod binary64;
 
 pub use binary64::{
@@ -8,7 +10,7 @@ pub use binary64::{
 };
 
 // What a binary64 pattern is, whatever its sign. Finite leaves out zero.
-#[derive(Drop)]
+#[derive(Clone, Copy)]
 pub enum Kind {
     Zero,
     Finite,

@@ -1,6 +1,8 @@
 // Numbers cut in two at a place, and numbers moved up in their word. Any place may be asked for: past the
 // last digit nothing is high, and nothing stays of what is moved past the word. The contracts cite the
 // definitions in specs/Places.antt. Every function here answers for all inputs.
+#![tactic(auto)]
+
 ghost use Rattle.std.specs.Prelude.{◌≡◌};
 ghost use Rattle.places.specs.Places.{high, low, moved_up};
 

@@ -1,6 +1,8 @@
 // Runs array calls, which round, pack and unpack, and writes what is lent to each and what comes of it,
 // and then what the answers of stochastic rounding add up to. The whole text has to be that of the file stdout, and
 // tests/worked_examples.py holds that file to the rules of document 01.
+#![tactic(auto)]
+
 mod array_calls;
 mod code_calls;
 mod text;

@@ -4,6 +4,8 @@
 //     unpack p emax sub code -> number place pattern
 // The whole text has to be that of the file stdout. A row that does not agree is written out before the
 // counts, so that the text is another one.
+#![tactic(auto)]
+
 mod rows;
 mod tallies;
 
@@ -16,7 +18,7 @@ const LINE_FEED: u8 = 10;
 const BLOCKS: u64 = 8;
 
 // What is counted so far, and the row that is being read.
-#[derive(Drop)]
+#[derive(Clone, Copy)]
 struct Reading {
     pub tally: Tally,
     pub row: Row,

@@ -18,7 +18,7 @@ const SPOILT: u64 = 0x1_0000_0000;
 // The fields of a row, as far as it is read, and which of them is being read, counted from 0: the call's
 // first letter, p, emax, sub, the pattern or code that is given, the arrow, the number, the place, and
 // the code or pattern that is due.
-#[derive(Drop)]
+#[derive(Clone, Copy)]
 pub struct Row {
     pub field: u64,
     pub letter: u8,

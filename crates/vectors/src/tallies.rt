@@ -9,7 +9,7 @@ const PACK: u8 = 112;
 
 const UNPACK: u8 = 117;
 
-#[derive(Drop)]
+#[derive(Clone, Copy)]
 pub struct Tally {
     pub packed: u64,
     pub packed_right: u64,

@@ -1,5 +1,6 @@
 // The job program: a job text on standard input, its answer on standard output. No contract can say what
 // is read or written; what is done with it is in the library.
+#![tactic(auto)]
 
 // Of standard input 65,536 bytes are read, or what there is: no job's text is that long, and what may
 // follow does not change the answer.
