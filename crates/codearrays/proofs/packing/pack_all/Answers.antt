@@ -1,0 +1,14 @@
+-- `codearrays::packing::pack_all` meets its contract. Assumes nothing.
+use lib.ListN.{length-set}
+use borrow.Author.Rules.{rules}
+use Rattle.codearrays.proofs.Turns.{none_written, one_more_written, all_written, packed_code}
+use Rattle.codearrays.proofs.packing.pack_all.Goals as goal
+
+pub loop-i-init : goal.loop-i-init
+loop-i-init c = (search rules, search rules, search none_written)
+
+pub loop-i-preserved : goal.loop-i-preserved
+loop-i-preserved c = (search rules, simp length-set (search rules), search (one_more_written, packed_code))
+
+pub returns : goal.returns
+returns c = search all_written
