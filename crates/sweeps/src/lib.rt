@@ -4,6 +4,8 @@
 // is added and what is kept. What the tables leave out is for the single rounding of the crate rounding. The
 // contracts cite the definitions in specs/; start with specs/Lib.antt. Every function here answers for all
 // inputs.
+#![tactic(auto)]
+
 mod derived;
 mod quick;
 mod rows;
@@ -17,7 +19,7 @@ pub use rules::{fill_places, place_by};
 pub use stretches::stretch_end;
 
 // Between which magnitude patterns a number is rounded without a branch, and by what.
-#[derive(Drop)]
+#[derive(Clone, Copy)]
 pub struct Limits {
     // how many digits are cut
     pub cut: u64,
@@ -31,7 +33,7 @@ pub struct Limits {
 }
 
 // What a number is rounded to, and whether that holds: it does where the top bit of `unfit` is not set.
-#[derive(Drop)]
+#[derive(Clone, Copy)]
 pub struct Swept {
     pub answer: u64,
     pub unfit: u64,
