@@ -1,0 +1,15 @@
+-- `arrays::sweeping::sweep_capped` meets its contract. Assumes nothing.
+use lib.ListN.{length-set}
+use borrow.Author.Rules.{rules}
+use Rattle.sweeps.proofs.Stretched.{swept_none}
+use Rattle.arrays.proofs.Sweeps.{capped_turn, sweep_ends}
+use Rattle.arrays.proofs.sweeping.sweep_capped.Goals as goal
+
+pub loop-i-init : goal.loop-i-init
+loop-i-init c = (search rules, search rules, search swept_none)
+
+pub loop-i-preserved : goal.loop-i-preserved
+loop-i-preserved c = (search rules, simp length-set (search rules), search capped_turn)
+
+pub returns-clause-swept : goal.returns-clause-swept
+returns-clause-swept c = search sweep_ends
