@@ -9,8 +9,7 @@ use reports::Report;
 
 // Every pattern of xs rounded into out, place i with word i in modes 7 and 8; or a refusal, and out as it
 // was.
-#[unsafe(no_mangle)]
-pub extern "C" fn wharfgrain_round_bytes(
+pub fn wharfgrain_round_bytes(
     p: u64,
     emax: u64,
     sub: u64,
@@ -27,8 +26,7 @@ pub extern "C" fn wharfgrain_round_bytes(
 }
 
 // The code of every pattern of xs into out; or a refusal, and out as it was.
-#[unsafe(no_mangle)]
-pub extern "C" fn wharfgrain_pack_bytes(
+pub fn wharfgrain_pack_bytes(
     p: u64,
     emax: u64,
     sub: u64,
@@ -42,8 +40,7 @@ pub extern "C" fn wharfgrain_pack_bytes(
 }
 
 // The pattern of every code into out; or a refusal, and out as it was.
-#[unsafe(no_mangle)]
-pub extern "C" fn wharfgrain_unpack_bytes(
+pub fn wharfgrain_unpack_bytes(
     p: u64,
     emax: u64,
     sub: u64,

@@ -19,8 +19,7 @@ pub(crate) fn format_from(p: u64, emax: u64, sub: u64) -> Format
 }
 
 // The known format with this number; refused as 11 above 5.
-#[unsafe(no_mangle)]
-pub extern "C" fn wharfgrain_known(known: u64) -> KnownFormat
+pub fn wharfgrain_known(known: u64) -> KnownFormat
     ensures { result ≡ in_numbers (lookup known) }
 {
     let found = known_format(known);

@@ -10,8 +10,7 @@ use reports::Report;
 
 // Every pattern of xs rounded into out, place i with word i in modes 7 and 8; or a refusal, and out as it
 // was.
-#[unsafe(no_mangle)]
-pub extern "C" fn wharfgrain_round(
+pub fn wharfgrain_round(
     p: u64,
     emax: u64,
     sub: u64,
@@ -28,8 +27,7 @@ pub extern "C" fn wharfgrain_round(
 }
 
 // The code of every pattern of xs into out; or a refusal, and out as it was.
-#[unsafe(no_mangle)]
-pub extern "C" fn wharfgrain_pack(
+pub fn wharfgrain_pack(
     p: u64,
     emax: u64,
     sub: u64,
@@ -43,8 +41,7 @@ pub extern "C" fn wharfgrain_pack(
 }
 
 // The pattern of every code into out; or a refusal, and out as it was.
-#[unsafe(no_mangle)]
-pub extern "C" fn wharfgrain_unpack(
+pub fn wharfgrain_unpack(
     p: u64,
     emax: u64,
     sub: u64,

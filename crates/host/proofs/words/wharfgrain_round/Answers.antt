@@ -1,0 +1,10 @@
+-- `host::words::wharfgrain_round` meets its contract. Assumes nothing.
+use Rattle.arrays.specs.Rounding.{reported, afterwards}
+use Rattle.host.proofs.PassedOn.{rounding_passed}
+use Rattle.host.proofs.words.wharfgrain_round.Goals as goal
+
+pub returns-clause-answer : goal.returns-clause-answer
+returns-clause-answer c = search (rounding_passed reported)
+
+pub returns-clause-written : goal.returns-clause-written
+returns-clause-written c = search (rounding_passed afterwards)
