@@ -26,13 +26,7 @@ pub fn wharfgrain_round_bytes(
 }
 
 // The code of every pattern of xs into out; or a refusal, and out as it was.
-pub fn wharfgrain_pack_bytes(
-    p: u64,
-    emax: u64,
-    sub: u64,
-    xs: &[u8],
-    out: &mut [u8],
-) -> Report
+pub fn wharfgrain_pack_bytes(p: u64, emax: u64, sub: u64, xs: &[u8], out: &mut [u8]) -> Report
     ensures answer { result ≡ pack_bytes_reported (format_from p emax sub) xs.now out.old }
     ensures written { out.new ≡ pack_bytes_afterwards (format_from p emax sub) xs.now out.old }
 {
@@ -40,13 +34,7 @@ pub fn wharfgrain_pack_bytes(
 }
 
 // The pattern of every code into out; or a refusal, and out as it was.
-pub fn wharfgrain_unpack_bytes(
-    p: u64,
-    emax: u64,
-    sub: u64,
-    codes: &[u8],
-    out: &mut [u8],
-) -> Report
+pub fn wharfgrain_unpack_bytes(p: u64, emax: u64, sub: u64, codes: &[u8], out: &mut [u8]) -> Report
     ensures answer { result ≡ unpack_bytes_reported (format_from p emax sub) codes.now out.old }
     ensures written { out.new ≡ unpack_bytes_afterwards (format_from p emax sub) codes.now out.old }
 {

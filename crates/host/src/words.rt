@@ -27,13 +27,7 @@ pub fn wharfgrain_round(
 }
 
 // The code of every pattern of xs into out; or a refusal, and out as it was.
-pub fn wharfgrain_pack(
-    p: u64,
-    emax: u64,
-    sub: u64,
-    xs: &[u64],
-    out: &mut [u64],
-) -> Report
+pub fn wharfgrain_pack(p: u64, emax: u64, sub: u64, xs: &[u64], out: &mut [u64]) -> Report
     ensures answer { result ≡ pack_reported (format_from p emax sub) xs.now out.old }
     ensures written { out.new ≡ pack_afterwards (format_from p emax sub) xs.now out.old }
 {
@@ -41,13 +35,7 @@ pub fn wharfgrain_pack(
 }
 
 // The pattern of every code into out; or a refusal, and out as it was.
-pub fn wharfgrain_unpack(
-    p: u64,
-    emax: u64,
-    sub: u64,
-    codes: &[u64],
-    out: &mut [u64],
-) -> Report
+pub fn wharfgrain_unpack(p: u64, emax: u64, sub: u64, codes: &[u64], out: &mut [u64]) -> Report
     ensures answer { result ≡ unpack_reported (format_from p emax sub) codes.now out.old }
     ensures written { out.new ≡ unpack_afterwards (format_from p emax sub) codes.now out.old }
 {
