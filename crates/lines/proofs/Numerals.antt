@@ -28,10 +28,10 @@ unfolding worth digit
 digit-worth b h = go (ltb b 48) refl (ltb b 58) refl (ltb b 65) refl (ltb b 71) refl h
   where
     go :
-        (below0 : Bool) → ltb b 48 ≡ below0 → (upto9 : Bool) → ltb b 58 ≡ upto9 → (belowA : Bool) → ltb b 65 ≡ belowA
-        → (uptoF : Bool) → ltb b 71 ≡ uptoF
-        → cond below0 16 (cond upto9 (b - 48) (cond belowA 16 (cond uptoF (b - 55) 16))) < 16
-        → digit (cond below0 16 (cond upto9 (b - 48) (cond belowA 16 (cond uptoF (b - 55) 16)))) ≡ b
+        (below0 : Bool) → ltb b 48 ≡ below0 → (upto9 : Bool) → ltb b 58 ≡ upto9 → (below_a : Bool) → ltb b 65 ≡ below_a
+        → (upto_f : Bool) → ltb b 71 ≡ upto_f
+        → cond below0 16 (cond upto9 (b - 48) (cond below_a 16 (cond upto_f (b - 55) 16))) < 16
+        → digit (cond below0 16 (cond upto9 (b - 48) (cond below_a 16 (cond upto_f (b - 55) 16)))) ≡ b
     go true _ _ _ _ _ _ _ h = absurd (omega arith)
     go false e true f _ _ _ _ h = let least = ltb-false b 48 e in let most = ltb-true b 58 f in simp (lt-ltb (b - 48) 10 (omega arith)) (omega arith)
     go false _ false _ true _ _ _ h = absurd (omega arith)

@@ -1,7 +1,7 @@
 // Digits: what a byte is worth, the byte of a digit, and how many digits a number takes.
 ghost use Rattle.std.specs.Prelude.{◌≡◌, ◌≤◌, ◌<◌, take};
-ghost use Rattle.lines.specs.Numerals.{digit, decimals as Numerals·decimals};
-ghost use Rattle.lines.specs.Reading.{worth as Reading·worth, run, value};
+ghost use Rattle.lines.specs.Numerals.{digit, decimals};
+ghost use Rattle.lines.specs.Reading.{worth, run, value};
 
 // What is no digit is worth more than any digit.
 const NO_DIGIT: u64 = 16;
@@ -15,7 +15,7 @@ pub struct Digits {
 
 // What a byte is worth as a digit, by decimal or upper-case hexadecimal; NO_DIGIT where it is none.
 fn worth(byte: u8) -> u64
-    ensures { result ≡ Reading·worth byte }
+    ensures { result ≡ worth byte }
 {
     if byte < 48 {
         return NO_DIGIT;
@@ -60,7 +60,7 @@ pub(crate) fn read_digits(s: &[u8], base: u64, most: usize) -> Digits
 
 // How many decimal digits a number of at most four takes.
 pub(crate) fn decimals(n: u64) -> usize
-    ensures { result ≡ Numerals·decimals n }
+    ensures { result ≡ decimals n }
 {
     if n < 10 {
         return 1;

@@ -1,7 +1,7 @@
 // Reading a line.
 ghost use Rattle.std.specs.Prelude.{◌≡◌};
-ghost use Rattle.lines.specs.Lines.{base, width, fits as Lines·fits};
-ghost use Rattle.lines.specs.Reading.{longest, begins as Reading·begins, read_value, read_line};
+ghost use Rattle.lines.specs.Lines.{base, width, fits};
+ghost use Rattle.lines.specs.Reading.{longest, begins, read_value, read_line};
 
 use super::digits::{decimals, read_digits};
 use super::{Form, Found, LINE_FEED};
@@ -38,7 +38,7 @@ fn longest_of(form: Form) -> usize
 
 // Whether a value is of the form.
 fn fits(form: Form, n: u64) -> bool
-    ensures { result ≡ Lines·fits form n }
+    ensures { result ≡ fits form n }
 {
     match form {
         Form::Number(most) => {
@@ -53,7 +53,7 @@ fn fits(form: Form, n: u64) -> bool
 
 // Whether a text begins with a key.
 fn begins(s: &[u8], key: &[u8]) -> bool
-    ensures { result ≡ Reading·begins key.now s.now }
+    ensures { result ≡ begins key.now s.now }
 {
     if s.len() < key.len() {
         return false;
