@@ -14,17 +14,17 @@ use Rattle.bytearrays.specs.Calls.{or_five, bytes_reported, bytes_afterwards}
 -- ---- what is reported
 
 -- a report is the call's if it is right for ragged lengths and for all others
-pub bytes_reported_lem : (before : ℕ) (onWords : Report) (xs out : List ℕ) (y : Report)
+pub bytes_reported_lem : (before : ℕ) (on_words : Report) (xs out : List ℕ) (y : Report)
     → (one_ragged (length xs) (length out) ≡ true → y ≡ report (or_five before))
-    → (one_ragged (length xs) (length out) ≡ false → y ≡ onWords)
-    → y ≡ bytes_reported before onWords xs out
+    → (one_ragged (length xs) (length out) ≡ false → y ≡ on_words)
+    → y ≡ bytes_reported before on_words xs out
 unfolding bytes_reported
-bytes_reported_lem before onWords xs out y = go (one_ragged (length xs) (length out))
+bytes_reported_lem before on_words xs out y = go (one_ragged (length xs) (length out))
   where
     refused : Report
     refused = report (or_five before)
 
-    go : (b : Bool) → (b ≡ true → y ≡ refused) → (b ≡ false → y ≡ onWords) → y ≡ cond b refused onWords
+    go : (b : Bool) → (b ≡ true → y ≡ refused) → (b ≡ false → y ≡ on_words) → y ≡ cond b refused on_words
     go true some none = some refl
     go false some none = none refl
 

@@ -28,35 +28,35 @@ use Rattle.bytearrays.proofs.RoundTrips.{bytes_of_words}
 
 -- ---- any call
 
-module _ (before : ℕ) (onWords : Report) (leaves xs out : List ℕ) where
+module _ (before : ℕ) (on_words : Report) (leaves xs out : List ℕ) where
   -- what is reported, by whether a length is ragged
   abbrev reported_where : Bool → Report
-  reported_where uneven = cond uneven (report (or_five before)) onWords
+  reported_where uneven = cond uneven (report (or_five before)) on_words
 
   -- the call's own report, and what it leaves by a report
   abbrev answer : Report
-  answer = bytes_reported before onWords xs out
+  answer = bytes_reported before on_words xs out
 
   abbrev left_by : Report → List ℕ
   left_by a = bytes_afterwards a leaves out
 
   module _ (inputs : ragged (length xs) ≡ false) (outputs : ragged (length out) ≡ false) where
     -- where none is, it is what the call on words reports
-    whole_reported : answer ≡ onWords
+    whole_reported : answer ≡ on_words
     unfolding bytes_reported
     whole_reported = ap reported_where (ap₂ (λ (b c : Bool). b || c) inputs outputs)
 
     -- and the output gets the bytes of what that leaves: where it is refused, they are what there was
-    whole_left : AllBelow 256 out → ((onWords.number ≡ 0 → ⊥) → leaves ≡ words_of out) → left_by onWords ≡ bytes_of leaves
+    whole_left : AllBelow 256 out → ((on_words.number ≡ 0 → ⊥) → leaves ≡ words_of out) → left_by on_words ≡ bytes_of leaves
     unfolding bytes_afterwards
-    whole_left small kept = go (eqb onWords.number 0) refl
+    whole_left small kept = go (eqb on_words.number 0) refl
       where
-        go : (b : Bool) → eqb onWords.number 0 ≡ b → cond b (bytes_of leaves) out ≡ bytes_of leaves
+        go : (b : Bool) → eqb on_words.number 0 ≡ b → cond b (bytes_of leaves) out ≡ bytes_of leaves
         go true e = refl
-        go false e = sym (bytes_of_words out small outputs) ∙ ap bytes_of (sym (kept (eqb-false onWords.number 0 e)))
+        go false e = sym (bytes_of_words out small outputs) ∙ ap bytes_of (sym (kept (eqb-false on_words.number 0 e)))
 
-    whole_call : AllBelow 256 out → ((onWords.number ≡ 0 → ⊥) → leaves ≡ words_of out)
-        → (answer ≡ onWords) × (left_by answer ≡ bytes_of leaves)
+    whole_call : AllBelow 256 out → ((on_words.number ≡ 0 → ⊥) → leaves ≡ words_of out)
+        → (answer ≡ on_words) × (left_by answer ≡ bytes_of leaves)
     whole_call small kept = (whole_reported, ap left_by whole_reported ∙ whole_left small kept)
 
   module _ (uneven : one_ragged (length xs) (length out) ≡ true) where

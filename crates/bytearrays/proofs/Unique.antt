@@ -2,15 +2,15 @@
 -- nothing.
 use mathlib.Core.Path.{sym, ◌∙◌}
 use Rattle.laws.specs.Promises.{OneOutcome}
-use Rattle.bytearrays.proofs.round.round_bytes.Reads as round-bytes
-use Rattle.bytearrays.proofs.pack.pack_bytes.Reads as pack-bytes
-use Rattle.bytearrays.proofs.unpack.unpack_bytes.Reads as unpack-bytes
+use Rattle.bytearrays.proofs.round.round_bytes.Reads as round_bytes
+use Rattle.bytearrays.proofs.pack.pack_bytes.Reads as pack_bytes
+use Rattle.bytearrays.proofs.unpack.unpack_bytes.Reads as unpack_bytes
 
-pub round_bytes_unique : OneOutcome round-bytes.Post (λ κs lent. lent.1.1.1.1.1.0.now)
+pub round_bytes_unique : OneOutcome round_bytes.Post (λ κs lent. lent.1.1.1.1.1.0.now)
 round_bytes_unique κs a y z s t p q = (p.0 ∙ sym q.0, p.1 ∙ sym q.1)
 
-pub pack_bytes_unique : OneOutcome pack-bytes.Post (λ κs lent. lent.1.1.0.now)
+pub pack_bytes_unique : OneOutcome pack_bytes.Post (λ κs lent. lent.1.1.0.now)
 pack_bytes_unique κs a y z s t p q = (p.0 ∙ sym q.0, p.1 ∙ sym q.1)
 
-pub unpack_bytes_unique : OneOutcome unpack-bytes.Post (λ κs lent. lent.1.1.0.now)
+pub unpack_bytes_unique : OneOutcome unpack_bytes.Post (λ κs lent. lent.1.1.0.now)
 unpack_bytes_unique κs a y z s t p q = (p.0 ∙ sym q.0, p.1 ∙ sym q.1)

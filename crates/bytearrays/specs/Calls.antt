@@ -19,8 +19,8 @@ or_five before = cond (eqb before 0) 5 before
 -- What is reported. An input or an output of a ragged length is refused as 5, in 5's place: what is refused before still comes
 -- first. Otherwise it is what the call on words reports.
 unfoldable pub bytes_reported : ℕ → Report → List ℕ → List ℕ → Report
-bytes_reported before onWords xs out =
-    cond (one_ragged (length xs) (length out)) (report (or_five before)) onWords
+bytes_reported before on_words xs out =
+    cond (one_ragged (length xs) (length out)) (report (or_five before)) on_words
 
 -- the output afterwards: the bytes of what the call on words leaves, or, where the call is refused, what it held before
 unfoldable pub bytes_afterwards : Report → List ℕ → List ℕ → List ℕ

@@ -1,8 +1,8 @@
-// The entry points that a program in C calls, as include/wharfgrain.h declares them: a known format, and
-// whole arrays rounded, packed and unpacked, lent as 64-bit words or as bytes. They hand on what they are
-// given, the format as three numbers, and answer what the crates below answer. The contracts cite the
-// definitions in specs/; start with specs/Lib.antt. Every function answers for all inputs, arrays of any
-// lengths among them.
+// What a program in C calls, as include/wharfgrain.h declares it: a known format, and whole arrays rounded,
+// packed and unpacked, lent as 64-bit words or as bytes. The functions hand on what they are given, the
+// format as three numbers, and answer what the crates below answer; the crate host_c exports them. The
+// contracts cite the definitions in specs/; start with specs/Lib.antt. Every function answers for all
+// inputs, arrays of any lengths among them.
 #![tactic(auto)]
 
 mod bytes;

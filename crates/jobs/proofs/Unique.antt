@@ -4,11 +4,11 @@
 use mathlib.Core.Path.{sym, ◌∙◌}
 use Rattle.laws.specs.Promises.{OneAnswer, OneOutcome}
 use Rattle.jobs.proofs.texts.has_words.Reads as has_words
-use Rattle.jobs.proofs.texts.read_job.Reads as read-job
+use Rattle.jobs.proofs.texts.read_job.Reads as read_job
 
 pub has_words_unique : OneAnswer has_words.Post
 has_words_unique κs a y z s t p q = p ∙ sym q
 
 -- what stands in `values`, the second parameter, as `read_job` returns
-pub read_job_unique : OneOutcome read-job.Post (λ κs lent. lent.1.0.now)
+pub read_job_unique : OneOutcome read_job.Post (λ κs lent. lent.1.0.now)
 read_job_unique κs a y z s t p q = (p.0 ∙ sym q.0, p.1 ∙ sym q.1)

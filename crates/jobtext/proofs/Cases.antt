@@ -4,12 +4,12 @@ use mathlib.Core.Path.{◌≡◌, refl}
 use Prim.Native.Nat.{ℕ}
 use lib.Ieee.{size}
 use lib.ListN.{take}
-use Rattle.patterns.specs.Patterns.{sign, mag, with_sign, kind_of, worth as valueWorth, val, pat}
+use Rattle.patterns.specs.Patterns.{sign, mag, with_sign, kind_of, worth as value_worth, val, pat}
 use Rattle.grid.specs.Formats.{between, precision_fits, exponent_fits, emin, etop, zeta_exp, step_exp, step, T}
 use Rattle.grid.specs.Neighbours.{lo, hi}
 use Rattle.magnitudes.specs.Modes.{mode_of, uses_word, K, u, takes_hi}
 use Rattle.magnitudes.specs.Destinations.{taken, written, goes_to}
-use Rattle.rounding.specs.Rounded.{answer_to as patternFor, rounded}
+use Rattle.rounding.specs.Rounded.{answer_to as pattern_for, rounded}
 use Rattle.rounding.specs.Calls.{bits_fit, refusal}
 use Rattle.arrays.specs.Rounding.{lengths_refusal, array_refusal, reported, rounded_at, afterwards}
 use Rattle.lines.specs.Numerals.{digit, digits, decimals}
@@ -33,7 +33,7 @@ answered :
 unfolding answer_to answer_by answer_of printed accepted pattern_lines line digits digit decimals
     reading values_in used_in heads_in places_in lines_in place_lines read_from has_words rule_at read_line behind begins read_value value_read digits_read value run worth fits job_of
     reported afterwards rounded_at array_refusal lengths_refusal uses_word refusal bits_fit precision_fits exponent_fits between mode_of
-    rounded patternFor goes_to taken written takes_hi K u lo hi step step_exp zeta_exp emin etop T kind_of sign mag with_sign val valueWorth pat size
+    rounded pattern_for goes_to taken written takes_hi K u lo hi step step_exp zeta_exp emin etop T kind_of sign mag with_sign val value_worth pat size
 answered = refl
 
 -- a job without inputs, by p, emax, the mode and r

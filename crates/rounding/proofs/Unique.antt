@@ -4,7 +4,7 @@ use mathlib.Core.Path.{sym, ◌∙◌}
 use Rattle.laws.specs.Promises.{OneAnswer}
 use Rattle.rounding.proofs.calls.prepare.Reads as prepare
 use Rattle.rounding.proofs.calls.round_by.Reads as round_by
-use Rattle.rounding.proofs.calls.round_one.Reads as round-one
+use Rattle.rounding.proofs.calls.round_one.Reads as round_one
 
 pub prepare_unique : OneAnswer prepare.Post
 prepare_unique κs a y z s t p q = p.1 ∙ sym q.1
@@ -12,5 +12,5 @@ prepare_unique κs a y z s t p q = p.1 ∙ sym q.1
 pub round_by_unique : OneAnswer round_by.Post
 round_by_unique κs a y z s t p q = p ∙ sym q
 
-pub round_one_unique : OneAnswer round-one.Post
+pub round_one_unique : OneAnswer round_one.Post
 round_one_unique κs a y z s t p q = p ∙ sym q
