@@ -9,7 +9,7 @@ find_emulator() {
     command -v rt >/dev/null ||
         fail "this machine, $machine, needs the toolchain's emulator, and its command rt is not on the PATH"
     guide=$(rt doc) || fail "rt does not tell where the toolchain is"
-    emulator=$(dirname "$(dirname "$guide")")/on/$machine/toolchain/bin/qemu-x86_64
+    emulator=$(dirname "$guide")/on/$machine/toolchain/bin/qemu-x86_64
     emulated=${emulator%/bin/*}/lib
     [ -x "$emulator" ] || fail "this machine, $machine, needs the toolchain's emulator, and there is none at $emulator"
 }

@@ -19,7 +19,7 @@ fail() {
 
 explain() {
     cat <<'TEXT'
-usage: scripts/native-object.sh OUT.o     proves the crate host, and compiles its functions for this machine
+usage: scripts/native-object.sh OUT.o     proves the crate host_c, and compiles its functions for this machine
        scripts/native-object.sh --help    says this
 
 A program in C links OUT.o in the place of libwharfgrain.a, with this machine's own compiler. Beside it there is
@@ -52,31 +52,32 @@ wait_for_others() {
     fi
 }
 
-# link_all_but NAME FOLDER: the shadow's folder gets links to all that the kit's folder has, but for one name
+# link_all_but NAMES FOLDER: the shadow's folder gets links to all that the kit's folder has, but for a pattern of names
 link_all_but() {
     local file
     mkdir -p "$shadow/$2"
     for file in "$kit/$2"/*; do
-        [ "${file##*/}" = "$1" ] || ln -s "$file" "$shadow/$2/"
+        # shellcheck disable=SC2053
+        [[ ${file##*/} == $1 ]] || ln -s "$file" "$shadow/$2/"
     done
 }
 
-# A shadow of the toolchain, all links, in which only the compiler is another: before it does what it is told it
-# keeps a copy of the module that it is given.
+# A shadow of the toolchain, all links but for rt, which looks for the rest beside itself; only the compiler is
+# another: before it does what it is told it keeps a copy of the module that it is given.
 make_shadow() {
-    local tools=on/$machine/toolchain
-    link_all_but on .
-    link_all_but toolchain "on/$machine"
-    link_all_but bin "$tools"
-    link_all_but clang "$tools/bin"
-    cat >"$shadow/$tools/bin/clang" <<WRAPPER
+    link_all_but '@(bin|toolchain)' .
+    link_all_but '@(rt|rtlib.py)' bin
+    cp "$kit/bin/rt" "$kit/bin/rtlib.py" "$shadow/bin"
+    link_all_but bin toolchain
+    link_all_but clang toolchain/bin
+    cat >"$shadow/toolchain/bin/clang" <<WRAPPER
 #!/usr/bin/env bash
 for word; do
     case \$word in *.bc | *.ll) cp "\$word" "$room/module" ;; esac
 done
 exec -a clang "$compiler" "\$@"
 WRAPPER
-    chmod +x "$shadow/$tools/bin/clang"
+    chmod +x "$shadow/toolchain/bin/clang"
 }
 
 # quietly WORDS...: runs them, and shows what they write only where they fail
@@ -87,11 +88,12 @@ quietly() {
     }
 }
 
-# `rt check` goes first because it proves several crates at a time. The archive that `rt staticlib` writes in
-# target/ is the usual one.
+# The archive that rt writes in crates/host_c/out/ is the usual one. The first `rt lib` proves; the shadow's compiles
+# what is proved once more.
 prove_and_build() {
+    cd "$root/crates/host_c"
+    quietly rt lib 9>&- && quietly "$shadow/bin/rt" lib 9>&-
     cd "$root"
-    quietly rt check host 9>&- && RATTLE_HOME=$shadow quietly rt staticlib host 9>&-
 }
 
 # The module as text; for another machine without what is said of x86-64 in it.
@@ -111,8 +113,8 @@ compile_module() {
 
 command -v rt >/dev/null || fail "the Rattle toolchain, which proves and builds the library, is not here: its command rt is not on the PATH"
 guide=$(rt doc) || fail "rt does not tell where the toolchain is"
-kit=$(dirname "$(dirname "$guide")")
-compiler=$kit/on/$machine/toolchain/bin/clang
+kit=$(dirname "$guide")
+compiler=$kit/toolchain/bin/clang
 [ -x "$compiler" ] || fail "the toolchain has no compiler for this machine, $machine, at $compiler"
 room=$(mktemp -d)
 trap 'rm -rf "$room"' EXIT

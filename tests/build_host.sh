@@ -20,6 +20,7 @@ fail() {
 copy="$room/a copy"
 mkdir -p "$copy" "$room/tools" "$room/kit" "$room/compilers" "$room/apt"
 cp -R bin scripts include examples "$copy"
+mkdir -p "$copy/crates/host_c"
 for tool in bash cat chmod cp dirname flock grep mkdir mktemp mv readlink rm rmdir sed sleep tee; do
     ln -s "$(command -v "$tool")" "$room/tools/$tool"
 done
@@ -38,21 +39,19 @@ TEXT
 stand_in "$room/kit/rt" <<TEXT
 #!/usr/bin/env bash
 cat
-case "\$*" in
-'check host')
+case "\$* \${PWD##*/}" in
+'lib host_c')
     sleep 1
-    echo "rt: laws proved (unchanged since it was last proved)"
-    echo "rt: host proved"
+    echo "crate laws: what rt does not say itself"
+    echo "rt: host_c proved"
     echo proved >>"$room/proved"
+    mkdir -p out
+    [ -e "$room/forgetful" ] || cat "$room/proved" >out/libhost_c.a
     ;;
-'staticlib host')
-    mkdir -p target/staticlib
-    [ -e "$room/forgetful" ] || cat "$room/proved" >target/staticlib/libhost.a
-    ;;
-doc) echo "$room/kit/docs/guide" ;;
+doc\ *) echo "$room/kit/guide" ;;
 *) exit 2 ;;
 esac
-[ ! -e "$room/broken \$1" ] || { echo "what is wrong with it"; exit 1; }
+[ ! -e "$room/broken" ] || { echo "what is wrong with it"; exit 1; }
 TEXT
 # the compilers note how they were called and leave a program
 stand_in "$room/compilers/cc" <<TEXT
@@ -116,7 +115,7 @@ left() {
 complete() {
     [ "$(ls -A "$dist")" = $'libwharfgrain.a\nwharfgrain.h' ] || fail "dist/ is not complete: $(left)"
     cmp "$dist/wharfgrain.h" "$copy/include/wharfgrain.h" || fail "dist/ has another header"
-    cmp "$dist/libwharfgrain.a" "$copy/target/staticlib/libhost.a" || fail "dist/ has another archive"
+    cmp "$dist/libwharfgrain.a" "$copy/crates/host_c/out/libhost_c.a" || fail "dist/ has another archive"
 }
 
 # built COMMAND...: it ends well, and dist/ is complete
@@ -135,12 +134,10 @@ refused_at_once 2 'there is no option' "${with_compiler[@]}" ''
 refused_at_once 1 'and no apt-get to install' env PATH="$tools" "$command"
 refused_at_once 1 'as root: apt-get install gcc libc6-dev' env USER_ID=1000 PATH="$room/apt:$tools" "$command"
 [ ! -e "$room/asked" ] || fail "apt-get was called by one who is not root"
-for verb in check staticlib; do
-    touch "$room/broken $verb"
-    refused 1 'could not be proved or built' "${with_compiler[@]}"
-    said 'what is wrong with it'
-    rm "$room/broken $verb"
-done
+touch "$room/broken"
+refused 1 'could not be proved or built' "${with_compiler[@]}"
+said 'what is wrong with it'
+rm "$room/broken"
 touch "$room/forgetful"
 refused 1 'rt has left no archive' "${with_compiler[@]}"
 rm "$room/forgetful"
@@ -158,9 +155,9 @@ ended 0 "${with_compiler[@]}"
 wait "$first" || fail "the first call ended with status $?"
 complete
 cat "$room/first.err" >>"$room/err"
-said 'rt: host proved'
+said 'rt: host_c proved'
 said 'waiting for another call'
-! grep -q unchanged "$room/err" || fail "crates that were proved before are told"
+! grep -q 'what rt does not say itself' "$room/err" || fail "more than rt's own lines is told"
 built "${with_compiler[@]}"
 
 # from another folder, by a link; the lines that link and run are those of a shell
@@ -174,9 +171,9 @@ due=(cc -O2 -I "$dist" "$copy/examples/host.c" "$dist/libwharfgrain.a" -o "$copy
 [ "${words[*]@Q}" = "${due[*]@Q}" ] || fail "it says to link so: $(cat "$room/out")"
 
 # what goes wrong later leaves dist/ as it was
-touch "$room/broken check"
+touch "$room/broken"
 refused 1 'could not be proved or built' "${with_compiler[@]}"
-rm "$room/broken check"
+rm "$room/broken"
 touch "$room/unlinkable"
 refused 1 'examples/host.c could not be linked' "${with_compiler[@]}"
 said 'what does not link'

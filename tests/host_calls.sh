@@ -55,8 +55,9 @@ trap 'rm -rf "$room"' EXIT
 # header and archive are there, and nothing that they are made of is newer
 is_current() {
     [ -f dist/wharfgrain.h ] && [ -f dist/libwharfgrain.a ] &&
-        [ -z "$(find crates crates.txt include bin/build-host scripts -newer dist/libwharfgrain.a -print -quit)" ]
+        [ -z "$(newer_than dist/libwharfgrain.a crates crates.txt include bin/build-host scripts)" ]
 }
+. scripts/newer.sh
 is_current || bin/build-host >&2 || fail "bin/build-host has not made dist/"
 
 . scripts/emulator.sh

@@ -17,9 +17,9 @@ fail() {
 
 # a copy of the command, in a folder whose name has a space, and the tools that it uses, with no rt among them
 copy="$room/a copy"
-mkdir -p "$copy/crates" "$room/tools" "$room/kit"
+mkdir -p "$copy/crates/wharfgrain" "$room/tools" "$room/kit"
 cp -R bin scripts crates.txt "$copy"
-for tool in bash cat chmod cp dirname find flock grep head id mkdir mktemp readlink rm sleep tee touch wc; do
+for tool in bash cat chmod cp dirname find flock grep head id mkdir mktemp mv readlink rm sleep tee touch wc; do
     ln -s "$(command -v "$tool")" "$room/tools/$tool"
 done
 stand_in() {
@@ -37,12 +37,13 @@ TEXT
 # the toolchain takes a second to build it, and notes how often it did
 stand_in "$room/kit/rt" <<TEXT
 #!/usr/bin/env bash
-[ "\$*" = 'check wharfgrain' ] || exit 2
+[ "\$* \${PWD##*/}" = 'run wharfgrain' ] || exit 2
 cat
 sleep 1
 echo "rt: a crate is proved"
 [ ! -e "$room/broken" ] || { echo "what is wrong with it"; exit 1; }
-mkdir -p target/bin && cp "$room/program" target/bin/wharfgrain && echo built >>"$room/built"
+mkdir -p out && cp "$room/program" out/wharfgrain && echo built >>"$room/built"
+out/wharfgrain
 TEXT
 command="$copy/bin/wharfgrain"
 without_toolchain=(env PATH="$room/tools" "$command")
@@ -93,6 +94,8 @@ grep -q 'waiting for another call' "$room/first.err" "$room/second.err" || fail 
 
 # a program that is there is not built again, and one that is older than its sources, or than one that went,
 # is
+answered 'bytes=3' "${without_toolchain[@]}" "$room/three bytes"
+touch -d '1 hour' "$copy/crates/wharfgrain" "$copy/crates/wharfgrain/out" "$copy/crates/wharfgrain/out/wharfgrain"
 answered 'bytes=3' "${without_toolchain[@]}" "$room/three bytes"
 touch -d '1 hour' "$copy/crates/new"
 refused 1 'its command rt is not on the PATH' "${without_toolchain[@]}" "$room/three bytes"

@@ -5,7 +5,8 @@
 # too if it is lent one to write; no such function asks anything of its caller. The page lists every wrong
 # answer, and every statement that specs/ names as a whole has a law in it; a fact's row names the file
 # that its laws are in; and the page names no function, fact, law, file or wrong answer that is not there.
-# Whether any other fact is missing from the page it cannot tell.
+# Whether any other fact is missing from the page it cannot tell. The crate host_c exports the functions of
+# the crate host, each with the very promise that it has there.
 set -euo pipefail
 unset CDPATH
 cd "$(dirname "$0")/.."
@@ -40,30 +41,39 @@ wrong_answers() {
     grep -hoE '^# [A-Za-z0-9_]+: .' "crates/$1/must-fail/"*.edit | sed 's/^# //; s/: .$//' || true
 }
 
-# what stands between a function's name and its body: parameters and contract
+# the folders of source, without that of host_c
+sources=()
+for source in crates/*/src; do
+    [ "$source" = crates/host_c/src ] || sources+=("$source")
+done
+
+# contract_of FUNCTION FOLDER...: what stands between a function's name and its body, parameters and contract
 contract_of() {
-    awk -v name="$1" '
-        $0 ~ "^ *pub (extern \"C\" )?fn " name "\\(" { inside = 1 }
+    local name=$1 files
+    shift
+    mapfile -t files < <(find "$@" -name '*.rt')
+    awk -v name="$name" '
+        $0 ~ "^ *pub (extern \"C\" )?fn " name "\\(" { inside = 1; sub(/pub (extern "C" )?fn/, "fn") }
         inside { print }
-        inside && /\{$/ { exit }' crates/*/src/*.rt
+        inside && /\{$/ { exit }' "${files[@]}"
 }
 
 # a row: function | refuses | answer | definition | unique | ruled out
 while IFS='|' read -r _ function _ _ _ unique ruled_out _; do
     function=$(tr -d '` ' <<<"$function")
-    fact=${function//_/-}-unique
-    contract=$(contract_of "$function")
+    fact=${function}_unique
+    contract=$(contract_of "$function" "${sources[@]}")
     outcome=OneAnswer
     grep -q '&mut ' <<<"$contract" && outcome=OneOutcome
     [ "$(tr -d '` ' <<<"$unique")" = "$fact" ] ||
         complain "the row of $function names another uniqueness fact"
-    grep -rqE -- "^pub $fact : $outcome ${function//_/-}\.Post" crates/*/proofs/Unique.antt ||
-        complain "no fact $fact : $outcome ${function//_/-}.Post"
+    grep -rqE -- "^pub $fact : $outcome $function\.Post" crates/*/proofs/Unique.antt ||
+        complain "no fact $fact : $outcome $function.Post"
     grep -qE '^ *requires' <<<"$contract" &&
         complain "the function $function asks something of its caller"
     [ "$(quoted "$ruled_out" | sort -u | wc -l)" -ge 2 ] ||
         complain "the row of $function rules out fewer than two wrong answers"
-    crate=$(grep -rlE "^ *pub (extern \"C\" )?fn $function\(" crates/*/src | cut -d / -f 2 || true)
+    crate=$(grep -rlE "^ *pub (extern \"C\" )?fn $function\(" "${sources[@]}" | cut -d / -f 2 || true)
     for answer in $(quoted "$ruled_out"); do
         wrong_answers "$crate" | grep -qxF -- "$answer" ||
             complain "the row of $function names $answer, which is in no edit of the crate ${crate:-?}"
@@ -87,7 +97,7 @@ done <<<"$facts"
 
 # a whole statement in specs/, `Name : Type 0` with nothing to be put in, has a law of that type
 while read -r statement; do
-    law=$(grep -rhoE -- "^pub [a-z0-9-]+ : $statement\$" crates/*/proofs | awk '{ print $2 }')
+    law=$(grep -rhoE -- "^pub [a-z0-9_-]+ : $statement\$" crates/*/proofs | awk '{ print $2 }')
     { [ -n "$law" ] && grep -qF -- "\`$law\`" <<<"$facts"; } || complain "no row for the statement $statement"
 done < <(grep -rhoE '^abbrev pub [A-Za-z0-9]+ : Type 0$' crates/*/specs | awk '{ print $3 }')
 
@@ -96,6 +106,17 @@ while read -r name; do
     functions=$((functions + 1))
     grep -q "^| \`$name\` |" <<<"$rows" || complain "no row for the function $name"
 done < <(grep -rhoE '^ *pub (extern "C" )?fn [a-z0-9_]+' crates/*/src | awk '{ print $NF }' | sort -u)
+
+# the same text however it is laid out
+unspaced() {
+    tr -d ' \n' | sed 's/,)/)/'
+}
+
+# what C calls promises what the function of its name in the crate host does
+while read -r name; do
+    [ "$(contract_of "$name" crates/host_c/src | unspaced)" = "$(contract_of "$name" crates/host/src | unspaced)" ] ||
+        complain "the crate host_c exports $name with another promise than the crate host has"
+done < <(grep -rhoE '^ *pub extern "C" fn [a-z0-9_]+' crates/host_c/src | awk '{ print $NF }')
 
 answers=0
 all_answers=
