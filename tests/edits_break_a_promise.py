@@ -79,9 +79,13 @@ def tried(edit):
     """What the prover says of the crate with the edit."""
     crate = os.path.dirname(os.path.dirname(edit))
     name = os.path.basename(crate)
-    with tempfile.TemporaryDirectory(dir="target/must-fail") as room:
+    with tempfile.TemporaryDirectory() as room:
         shutil.copy("crates.txt", room)
-        subprocess.run(["cp", "-al", "crates", f"{room}/crates"], check=True)
+        # rt removes a file that it has kept before it makes it anew, so that links do where the disk is the same
+        linked = subprocess.run(["cp", "-al", "crates", f"{room}/crates"], capture_output=True)
+        if linked.returncode:
+            shutil.rmtree(f"{room}/crates", ignore_errors=True)
+            subprocess.run(["cp", "-a", "crates", f"{room}/crates"], check=True)
         for path, text in edited(edit, crate).items():
             os.remove(f"{room}/{crate}/{path}")
             with open(f"{room}/{crate}/{path}", "w", encoding="utf-8") as f:

@@ -1,6 +1,6 @@
 #!/usr/bin/env bash
 # What the programs of the crates blackboard, trials and vectors have to write is right by the rules of
-# document 01, worked out anew by tests/worked_examples.py. That they write it, rt check and rt ci see.
+# document 01, worked out anew by tests/worked_examples.py. That they write it, rt ci sees.
 set -euo pipefail
 unset CDPATH
 cd "$(dirname "$0")/.."

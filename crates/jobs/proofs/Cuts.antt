@@ -23,7 +23,7 @@ use Rattle.jobs.proofs.Facts.{read_are_jobs, named_is_first_bad, first_bad_is_na
 good_lines_are_short : (s : List ℕ) (k : ℕ) → GoodLines s k → length (first_lines k s) ≤ longest_text
 good_lines_are_short s k g =
     let same : length (first_lines k (text_of g.job)) ≡ length (first_lines k s) = ap length g.same in
-    omega (arith, length-first_lines k (text_of g.job), jobs_are_short g.job g.in_range_lem)
+    omega (arith, length-first_lines k (text_of g.job), jobs_are_short g.job g.in_range)
 
 -- a text that is longer than any job's is no job's
 long_is_no_job : (s : List ℕ) → longest_text < length s → (j : Job) → InRange j → s ≡ text_of j → ⊥
@@ -37,7 +37,7 @@ module _ (s : List ℕ) (m : ℕ) (enough : longest_text < m) where
       record {
         ended = cut_keeps_ends k m s short g.ended;
         job = g.job;
-        in_range_lem = g.in_range_lem;
+        in_range = g.in_range;
         same = g.same ∙ sym (cut_keeps_lines k m s short);
       }
 
@@ -47,7 +47,7 @@ module _ (s : List ℕ) (m : ℕ) (enough : longest_text < m) where
       record {
         ended = le_trans g.ended (times_cut m s);
         job = g.job;
-        in_range_lem = g.in_range_lem;
+        in_range = g.in_range;
         same = g.same ∙ ended_lines_kept k m s g.ended;
       }
 

@@ -26,7 +26,7 @@ good_fewer s k m few good =
     record {
       ended = le_trans few good.ended;
       job = good.job;
-      in_range_lem = good.in_range_lem;
+      in_range = good.in_range;
       same =
           sym (first_first k m (text_of good.job) few) ∙ ap (λ (l : List ℕ). first_lines k l) good.same ∙ first_first k m s few;
     }
@@ -77,7 +77,7 @@ read_good s =
     record {
       ended = omega (arith, ap (λ (l : List ℕ). times line_feed l) text, row_feeds words 0 (values_in s) (drop (used_in s) s));
       job = job_of (values_in s);
-      in_range_lem = read_range s;
+      in_range = read_range s;
       same =
           made_first (values_in s) (values_within s)
           ∙ sym (ap (λ (l : List ℕ). first_lines (length (values_in s)) l) text ∙ first_begins words (values_in s) (drop (used_in s) s));
@@ -116,6 +116,6 @@ good_read s k good = omega (arith, ap length first, length-take k (values_in s),
 
     first : take k (values_in s) ≡ take k vs
     first =
-        lines_read vs (λ words. range_fits words j good.in_range_lem) s k (drop (length (first_lines k s)) s) within
-        (omega (arith, length_values j good.in_range_lem))
+        lines_read vs (λ words. range_fits words j good.in_range) s k (drop (length (first_lines k s)) s) within
+        (omega (arith, length_values j good.in_range))
         begins

@@ -15,7 +15,7 @@ first_lines (suc k) (b ∷ s) = b ∷ cond (eqb b line_feed) (first_lines k s) (
 pub record GoodLines (s : List ℕ) (k : ℕ) : Type 0 where
   pub ended : k ≤ times line_feed s
   pub job : Job
-  pub in_range_lem : InRange job
+  pub in_range : InRange job
   pub same : first_lines k (text_of job) ≡ first_lines k s
 
 -- Line k, counted from 1, is the first bad one: the lines before it are good, and with it they are not, since it is missing, unended,
