@@ -91,9 +91,7 @@ quietly() {
 # The archive that rt writes in crates/host_c/out/ is the usual one. The first `rt lib` proves; the shadow's compiles
 # what is proved once more.
 prove_and_build() {
-    cd "$root/crates/host_c"
-    quietly rt lib 9>&- && quietly "$shadow/bin/rt" lib 9>&-
-    cd "$root"
+    (cd "$root/crates/host_c" && quietly rt lib 9>&- && quietly "$shadow/bin/rt" lib 9>&-)
 }
 
 # The module as text; for another machine without what is said of x86-64 in it.

@@ -5,7 +5,7 @@ functions, each under a line `# name: the rule that it breaks`.
 For an edit of src/ a complaint of the prover is about a goal whose name begins with `returns`, or about what a loop has written so
 far (`FilledTo`, `SweptTo`, or what is pasted over a list, `paste`, in a goal `loop-..-init` or `loop-..-preserved`), and every other
 one follows from such a complaint; and each function that the edit changes is refused so by itself. A complaint about a sum that may
-not fit, or about a proof file that names what is no longer there, shows nothing about the answer. That the edited answer is wrong,
+not fit or an index that may be too large, or about a proof file that names what is no longer there, shows nothing about the answer. That the edited answer is wrong,
 and not only another way to the right one, the prover cannot say: that is for the line with the rule.
 For an edit of specs/ a fact that docs/PROMISES.md lists is not proved any more, every complaint is that a law does not hold, and one
 of those laws is a closed case (proofs/Cases.antt): the definition computes to something else, and is not only said in another way.
@@ -29,14 +29,14 @@ FUNCTION = re.compile(r"\s*(?:pub(?:\(crate\))? )?(?:extern \"C\" )?fn ([a-z0-9_
 ANSWERED = re.compile(r"\S*proofs/(?:\S+/)?([a-z0-9_]+)/(?:Answers|Invariants)\.antt:\d+:\d+: error: `([^`]*)`: (.*)")
 SEARCHED = re.compile(r"fn (?:\w+::)*(\w+): no proof: .*`search` did not prove ([^;]*).*")
 STATED = re.compile(r"note: (`[^`]*`)(?: and (`[^`]*`))* of \S*proofs/\S* must prove: (.*)")
+UNPROVED = re.compile(r"note: \S+:\d+:\d+: it is not proved that .*?\((`[^`]*`(?:, `[^`]*`)*)\).*")
 LAW = re.compile(r"\S*proofs/(\w+)\.antt:\d+:\d+: error: `([^`]*)`: (.*)")
 
 PROMISED = re.compile(r"returns(?:-|$)")
 WRITTEN = re.compile(r"loop(?:-.*)?-(?:init|preserved)(?:-|$)")
-SO_FAR = re.compile(r"FilledTo |SweptTo |\bpaste ")
-GONE = re.compile(r"has no `[^`]*` that can be named|has no field|is not in scope")
+SO_FAR = re.compile(r"(?:`search`: no proof of `)?(?:(?:[\w.]*\.)?(?:FilledTo|SweptTo) |\S*◌≡◌ .*\bpaste |.* ≡ paste )")
 FOLLOWS = re.compile(r"error: \d+ declarations? that depends? on `([^`]*)`, which was (?:rejected|not admitted), (?:was|were) not checked: (.*)")
-FALSE = re.compile(r"(?:as printed|computed as far as they go), the two types (?:first )?differ|`omega`: the goal does not follow|`search`: no proof of|`grind`")
+FALSE = re.compile(r"(?:as printed|computed as far as they go), the two types (?:first )?differ|`omega`: the goal does not follow|`search`: no proof of")
 
 
 def read(path):
@@ -75,17 +75,29 @@ def changed(texts, crate):
     return found
 
 
+def linked_or_copied(one, other):
+    """Gives a file that rt has kept a second name, since rt makes such a file anew and never writes into it; others are copied."""
+    try:
+        if not one.endswith(".oantt"):
+            raise OSError
+        os.link(one, other)
+    except OSError:
+        shutil.copy2(one, other)
+
+
+def at_once():
+    """How many checks run side by side: one a processor, and no more than the memory that is free has room for."""
+    free = re.search(r"(?m)^MemAvailable: *(\d+) kB$", read("/proc/meminfo"))
+    return max(1, min(os.cpu_count() or 1, int(free[1]) // 3_000_000 if free else 1))
+
+
 def tried(edit):
     """What the prover says of the crate with the edit."""
     crate = os.path.dirname(os.path.dirname(edit))
     name = os.path.basename(crate)
     with tempfile.TemporaryDirectory() as room:
         shutil.copy("crates.txt", room)
-        # rt removes a file that it has kept before it makes it anew, so that links do where the disk is the same
-        linked = subprocess.run(["cp", "-al", "crates", f"{room}/crates"], capture_output=True)
-        if linked.returncode:
-            shutil.rmtree(f"{room}/crates", ignore_errors=True)
-            subprocess.run(["cp", "-a", "crates", f"{room}/crates"], check=True)
+        shutil.copytree("crates", f"{room}/crates", copy_function=linked_or_copied)
         for path, text in edited(edit, crate).items():
             os.remove(f"{room}/{crate}/{path}")
             with open(f"{room}/{crate}/{path}", "w", encoding="utf-8") as f:
@@ -127,7 +139,7 @@ def judged(edit, log, listed):
     if all(it.startswith("specs/") for it in texts):
         laws = [LAW.fullmatch(it) for it in complaints]
         for it, law in zip(complaints, laws):
-            if not law or not FALSE.search(law[3]):
+            if not law or not FALSE.match(law[3]):
                 yield f"refused elsewhere than at a law: {it[:200]}"
         if not (unproved | {law[2] for law in laws if law}) & listed:
             yield "no fact of docs/PROMISES.md is refused"
@@ -140,19 +152,19 @@ def judged(edit, log, listed):
     said, refused = stated(log), set()
     for it in complaints:
         at = ANSWERED.fullmatch(it)
-        if not at or GONE.search(at[3]):
+        if not at or not FALSE.match(at[3]):
             yield f"refused elsewhere than at a promise: {it[:200]}"
-        elif PROMISED.match(at[2]) or (WRITTEN.match(at[2]) and SO_FAR.search(at[3])):
+        elif PROMISED.match(at[2]) or (WRITTEN.match(at[2]) and SO_FAR.match(at[3])):
             refused.add(at[1])
         else:
             yield f"refused elsewhere than at a promise: {it[:200]}"
     for it in lines:
-        at = SEARCHED.fullmatch(it)
-        for goal in re.findall(r"`([^`]*)`", at[2]) if at else []:
-            if PROMISED.match(goal) or (WRITTEN.match(goal) and SO_FAR.search(said.get(goal, ""))):
-                refused.add(at[1])
-            else:
+        at = SEARCHED.fullmatch(it) or UNPROVED.fullmatch(it)
+        for goal in re.findall(r"`([^`]*)`", at[at.lastindex]) if at else []:
+            if not PROMISED.match(goal) and not (WRITTEN.match(goal) and SO_FAR.match(said.get(goal, ""))):
                 yield f"refused elsewhere than at a promise: {it[:200]}"
+            elif at.re is SEARCHED:
+                refused.add(at[1])
     functions = changed(texts, crate)
     if functions - refused:
         yield "not refused by themselves: " + " ".join(sorted(functions - refused))
@@ -176,7 +188,7 @@ def main():
     os.makedirs("target/must-fail", exist_ok=True)
     answers = sum(len(NAMED.findall(read(it))) for it in edits)
     unfit = 0
-    with concurrent.futures.ThreadPoolExecutor(os.cpu_count()) as pool:
+    with concurrent.futures.ThreadPoolExecutor(at_once()) as pool:
         for edit, log in zip(edits, pool.map(tried, edits)):
             wrong = list(judged(edit, log, listed))
             unfit += bool(wrong)

@@ -25,19 +25,19 @@ module _ (f : Format) (p : Bool) (p-tested : p ≡ precision_fits f.p) where
     unfolding format_refusal
     refuses_exponent x-fails = simp (← p-tested, p-fits, ← x-tested, x-fails)
 
-    module _ (x_Fits : not x ≡ false) where
+    module _ (x-fits : not x ≡ false) where
       -- only an emax in range is asked for its code
       pub asked_exponent-fits : exponent_fits f.emax ≡ true
-      asked_exponent-fits = sym x-tested ∙ not-false x x_Fits
+      asked_exponent-fits = sym x-tested ∙ not-false x x-fits
 
       module _ (c : Bool) (c-tested : c ≡ has_code f) where
         pub accepts_code : c ≡ true → 0 ≡ format_refusal f
         unfolding format_refusal
-        accepts_code has = simp (← p-tested, p-fits, ← x-tested, x_Fits, ← c-tested, has)
+        accepts_code has = simp (← p-tested, p-fits, ← x-tested, x-fits, ← c-tested, has)
 
         pub refuses_code : c ≡ false → 7 ≡ format_refusal f
         unfolding format_refusal
-        refuses_code lacks = simp (← p-tested, p-fits, ← x-tested, x_Fits, ← c-tested, lacks)
+        refuses_code lacks = simp (← p-tested, p-fits, ← x-tested, x-fits, ← c-tested, lacks)
 
 -- 7 is the last of them
 pub format_refusal-most : (f : Format) → format_refusal f ≤ 7

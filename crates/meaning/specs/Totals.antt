@@ -36,7 +36,7 @@ answers f r x words = map (λ (word : ℕ). rounded f (Stochastic r) word x) wor
 abbrev pub rest : Format → ℕ → ℕ
 rest f a = a - lo f a
 
--- 2^r times the magnitude a chopped r bits beyond the last place. What is chopped is lo + K-as-G / 2^r, and 2^r of it are a whole
+-- 2^r times the magnitude a chopped r bits beyond the last place. What is chopped is lo + K·G / 2^r, and 2^r of it are a whole
 -- number: 2^r times a with the digits below the step cleared (`chopped_clears`).
 unfoldable pub chopped : Format → ℕ → ℕ → ℕ
 chopped f r a = 2 ^ r * lo f a + K r (rest f a) (step f a) * step f a

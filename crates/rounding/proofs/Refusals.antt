@@ -26,25 +26,25 @@ module _ (f : Format) (mode r : ℕ) (p : Bool) (p-tested : p ≡ precision_fits
     unfolding refusal
     refuses_exponent x-fails = simp (← p-tested, p-fits, ← x-tested, x-fails)
 
-    module _ (x_Fits : not x ≡ false) where
+    module _ (x-fits : not x ≡ false) where
       pub refuses_mode : 8 < mode → 3 ≡ refusal f mode r
       unfolding refusal
-      refuses_mode past = simp (← p-tested, p-fits, ← x-tested, x_Fits, lt-ltb 8 mode past)
+      refuses_mode past = simp (← p-tested, p-fits, ← x-tested, x-fits, lt-ltb 8 mode past)
 
       module _ (known : mode ≤ 8) where
         -- a mode other than 7 has no r to look at
         pub accepts_mode : (mode ≡ 7 → ⊥) → 0 ≡ refusal f mode r
         unfolding refusal
-        accepts_mode other = simp (← p-tested, p-fits, ← x-tested, x_Fits, le-ltb 8 mode known, ne_eqb mode 7 other)
+        accepts_mode other = simp (← p-tested, p-fits, ← x-tested, x-fits, le-ltb 8 mode known, ne_eqb mode 7 other)
 
         module _ (seven : mode ≡ 7) (b : Bool) (b-tested : b ≡ bits_fit r) where
           pub accepts_bits : b ≡ true → 0 ≡ refusal f mode r
           unfolding refusal
-          accepts_bits fits = simp (← p-tested, p-fits, ← x-tested, x_Fits, le-ltb 8 mode known, eq-eqb mode 7 seven, ← b-tested, fits)
+          accepts_bits fits = simp (← p-tested, p-fits, ← x-tested, x-fits, le-ltb 8 mode known, eq-eqb mode 7 seven, ← b-tested, fits)
 
           pub refuses_bits : b ≡ false → 4 ≡ refusal f mode r
           unfolding refusal
-          refuses_bits fails = simp (← p-tested, p-fits, ← x-tested, x_Fits, le-ltb 8 mode known, eq-eqb mode 7 seven, ← b-tested, fails)
+          refuses_bits fails = simp (← p-tested, p-fits, ← x-tested, x-fits, le-ltb 8 mode known, eq-eqb mode 7 seven, ← b-tested, fails)
 
 -- ---- a call that is not refused
 
