@@ -120,7 +120,7 @@ shadow=$room/kit
 
 wait_for_others
 make_shadow
-say "proving the library, the first time in some four minutes, and compiling it for $machine"
+say "proving the library, which takes some minutes the first time, and compiling it for $machine"
 prove_and_build || fail "the library could not be proved or built"
 [ -f "$room/module" ] || fail "the prover has handed no module to the compiler"
 write_module
