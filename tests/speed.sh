@@ -24,10 +24,6 @@ counted=512
 # Instructions an element at most, of words and of bytes. Those by tables have the filling in them.
 declare -A most=([normal]=16 [subnormal]=46)
 
-# Of ordinary words in E5M2 and mode 7: today's compiler no longer makes two loops there, by which way the share of the
-# random word is moved, but moves it both ways in one, and a number takes 16.4.
-most_of_words_in_E5M2_mode_7=17
-
 room=$(mktemp -d)
 trap 'rm -rf "$room"' EXIT
 
@@ -51,9 +47,7 @@ done
 
 # too_many KIND: the rows of the table of instructions that are above what the kind may take
 too_many() {
-    awk -v kind="$1" -v most="${most[$1]}" -v apart="$most_of_words_in_E5M2_mode_7" '
-        { most_of_words = $1 == "E5M2" && $2 == 7 && kind == "normal" ? apart : most }
-        $3 == kind && ($5 > most_of_words || $6 > most)' "$room/$1"
+    awk -v kind="$1" -v most="${most[$1]}" '$3 == kind && ($5 > most || $6 > most)' "$room/$1"
 }
 
 if [ "$(uname -m)" = x86_64 ]; then
@@ -65,10 +59,10 @@ if [ "$(uname -m)" = x86_64 ]; then
         [ "$(grep -c " $kind " "$room/$kind")" -eq $rows ] || fail "bench/ has not counted $rows rows of $kind data"
         [ -z "$(too_many "$kind")" ] || {
             too_many "$kind" >&2
-            fail "these rows take more instructions an element, words or bytes, than $kind data may"
+            fail "these rows take more than ${most[$kind]} instructions an element, words or bytes"
         }
     done
-    echo "speed: $loops loops vectorized on words and on bytes; at most ${most[normal]} instructions an ordinary number, $most_of_words_in_E5M2_mode_7 for one on words in E5M2 and mode 7, and ${most[subnormal]} a subnormal one"
+    echo "speed: $loops loops vectorized on words and on bytes; at most ${most[normal]} instructions an ordinary number, ${most[subnormal]} a subnormal one"
 else
     echo "speed: $loops loops vectorized on words and on bytes"
 fi

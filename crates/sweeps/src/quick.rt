@@ -39,7 +39,9 @@ fn if_past(high: u64, more: u64, n: u64) -> u64
     0
 }
 
-// A normal number up to the most that fits. It cannot come out as T.
+// A normal number up to the most that fits. It cannot come out as T. It is put into the loops that sweep, as
+// `capped` is, before the compiler improves them: only then does mode 7 get a loop for each way to a share.
+#[inline(always)]
 pub fn plain(l: Limits, number: u64, r: u64, word: u64, x: u64) -> Swept
     ensures { result ≡ plainly l (mode_of number r) word x }
 {
@@ -56,6 +58,7 @@ pub fn plain(l: Limits, number: u64, r: u64, word: u64, x: u64) -> Swept
 
 // A normal number below T. What comes out as T is moved on to infinity. In a format of few digits many
 // numbers do.
+#[inline(always)]
 pub fn capped(l: Limits, number: u64, r: u64, word: u64, x: u64) -> Swept
     ensures { result ≡ cappedly l (mode_of number r) word x }
 {
