@@ -112,11 +112,13 @@ unspaced() {
     tr -d ' \n' | sed 's/,)/)/'
 }
 
-# what C calls promises what the function of its name in the crate host does
+# every function of the crate host is exported to C, and promises there what it does here
 while read -r name; do
+    grep -rqE "^ *pub extern \"C\" fn $name\(" crates/host_c/src ||
+        complain "the crate host_c does not export the function $name of the crate host"
     [ "$(contract_of "$name" crates/host_c/src | unspaced)" = "$(contract_of "$name" crates/host/src | unspaced)" ] ||
         complain "the crate host_c exports $name with another promise than the crate host has"
-done < <(grep -rhoE '^ *pub extern "C" fn [a-z0-9_]+' crates/host_c/src | awk '{ print $NF }')
+done < <(grep -rhoE '^ *pub fn [a-z0-9_]+' crates/host/src | awk '{ print $NF }')
 
 answers=0
 all_answers=

@@ -87,6 +87,12 @@ def renamings(root):
 
 def main(argv):
     root = os.path.abspath(argv[0] if argv else os.path.join(os.path.dirname(os.path.abspath(__file__)), ".."))
+    # nothing is written unless the files are as port.py left them
+    for f, pairs in SEARCHED.items():
+        path = f"{root}/crates/{f}"
+        text = open(path, encoding="utf-8").read() if os.path.isfile(path) else ""
+        if not all(a in text for a, _ in pairs):
+            sys.exit(f"respell: {path} is not there as port.py left it: nothing was changed")
     for name, files in LEMMAS.items():
         for f in files:
             path = f"{root}/crates/{f}"
@@ -97,8 +103,6 @@ def main(argv):
         path = f"{root}/crates/{f}"
         text = open(path, encoding="utf-8").read()
         for a, b in pairs:
-            if a not in text:
-                sys.exit(f"respell: {path} has no {a}: this is no checkout as port.py left it")
             text = text.replace(a, b)
         open(path, "w", encoding="utf-8").write(text)
     made, names = renamings(root)
