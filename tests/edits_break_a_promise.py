@@ -23,7 +23,7 @@ import sys
 import tempfile
 
 NAMED = re.compile(r"(?m)^# ([A-Za-z0-9_]+): .")
-FUNCTION = re.compile(r"\s*(?:pub(?:\(crate\))? )?(?:extern \"C\" )?fn ([a-z0-9_]+)\(")
+FUNCTION = re.compile(r"\s*(?:pub(?:\(crate\))? )?(?:extern \"C\" )?fn ([a-z0-9_]+)[<(]")
 
 # a complaint about the answer to a goal of a function, or that no answer was found for it, and one about a law
 ANSWERED = re.compile(r"\S*proofs/(?:\S+/)?([a-z0-9_]+)/(?:Answers|Invariants)\.antt:\d+:\d+: error: `([^`]*)`: (.*)")

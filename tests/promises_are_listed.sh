@@ -53,7 +53,7 @@ contract_of() {
     shift
     mapfile -t files < <(find "$@" -name '*.rt')
     awk -v name="$name" '
-        $0 ~ "^ *pub (extern \"C\" )?fn " name "\\(" { inside = 1; sub(/pub (extern "C" )?fn/, "fn") }
+        $0 ~ "^ *pub (extern \"C\" )?fn " name "[<(]" { inside = 1; sub(/pub (extern "C" )?fn/, "fn") }
         inside { print }
         inside && /\{$/ { exit }' "${files[@]}"
 }
@@ -67,13 +67,13 @@ while IFS='|' read -r _ function _ _ _ unique ruled_out _; do
     grep -q '&mut ' <<<"$contract" && outcome=OneOutcome
     [ "$(tr -d '` ' <<<"$unique")" = "$fact" ] ||
         complain "the row of $function names another uniqueness fact"
-    grep -rqE -- "^pub $fact : $outcome $function\.Post" crates/*/proofs/Unique.antt ||
+    grep -rqE -- "^ *pub $fact : $outcome \(?$function\.Post" crates/*/proofs/Unique.antt ||
         complain "no fact $fact : $outcome $function.Post"
     grep -qE '^ *requires' <<<"$contract" &&
         complain "the function $function asks something of its caller"
     [ "$(quoted "$ruled_out" | sort -u | wc -l)" -ge 2 ] ||
         complain "the row of $function rules out fewer than two wrong answers"
-    crate=$(grep -rlE "^ *pub (extern \"C\" )?fn $function\(" "${sources[@]}" | cut -d / -f 2 || true)
+    crate=$(grep -rlE "^ *pub (extern \"C\" )?fn $function[<(]" "${sources[@]}" | cut -d / -f 2 || true)
     for answer in $(quoted "$ruled_out"); do
         wrong_answers "$crate" | grep -qxF -- "$answer" ||
             complain "the row of $function names $answer, which is in no edit of the crate ${crate:-?}"
@@ -114,7 +114,7 @@ unspaced() {
 
 # every function of the crate host is exported to C, and promises there what it does here
 while read -r name; do
-    grep -rqE "^ *pub extern \"C\" fn $name\(" crates/host_c/src ||
+    grep -rqE "^ *pub extern \"C\" fn $name[<(]" crates/host_c/src ||
         complain "the crate host_c does not export the function $name of the crate host"
     [ "$(contract_of "$name" crates/host_c/src | unspaced)" = "$(contract_of "$name" crates/host/src | unspaced)" ] ||
         complain "the crate host_c exports $name with another promise than the crate host has"
@@ -135,7 +135,7 @@ while read -r name; do
     [ -e "$name" ] && continue
     [ -e "crates/$name" ] && continue
     grep -qxF -- "$name" <<<"$all_answers" && continue
-    grep -rqE "^ *(pub )?(extern \"C\" )?fn $name\(" crates/*/src && continue
+    grep -rqE "^ *(pub )?(extern \"C\" )?fn $name[<(]" crates/*/src && continue
     grep -rqE -- "^ *((unfoldable|abbrev|pub|record|data) )*$name( [({].*)? :" crates/*/specs crates/*/proofs && continue
     complain "$name is named, and nothing of that name is there"
 done <<<"$named"

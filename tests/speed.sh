@@ -32,17 +32,36 @@ scripts/native-object.sh "$room/host.o" 2>"$room/log" || {
     fail "scripts/native-object.sh has not compiled the library"
 }
 
-# vectorized CRATE: how many of the loops that the crate sweeps with are vectorized
+# vectorized CALL: how many of the loops that an exported call sweeps with are vectorized. One generic loop serves words
+# and bytes, so that the loops are told apart by the call that reaches them.
 vectorized() {
-    awk -v crate="@\"$1::sweeping::" '
-        /^define / { inside = index($0, crate) > 0 }
-        inside && /^vector\.body[0-9.a-z]*:/ { count++ }
-        END { print count + 0 }' "$room/host.ll"
+    awk -v call="@$1" '
+        /^define / { inside = match($0, /@("[^"]*"|[A-Za-z0-9_.]+)\(/) ? substr($0, RSTART, RLENGTH - 1) : "" }
+        inside && / call / && match($0, /@("[^"]*"|[A-Za-z0-9_.]+)\(/) { calls[inside] = calls[inside] "\n" substr($0, RSTART, RLENGTH - 1) }
+        inside && /^vector\.body[0-9a-z.]*:/ { loops[inside]++ }
+        END {
+            # the functions that the call reaches, each once
+            reached[call] = 1
+            waiting[1] = call
+            for (n = 1; n > 0; ) {
+                name = waiting[n--]
+                if (index(name, "@\"arrays::sweeping::") == 1)
+                    count += loops[name]
+                m = split(calls[name], called, "\n")
+                for (i = 1; i <= m; i++)
+                    if (called[i] != "" && !(called[i] in reached)) {
+                        reached[called[i]] = 1
+                        waiting[++n] = called[i]
+                    }
+            }
+            print count + 0
+        }
+    ' "$room/host.ll"
 }
 
-for crate in arrays bytearrays; do
-    found=$(vectorized $crate)
-    [ "$found" -ge $loops ] || fail "of the $loops loops by which $crate sweeps, $found are vectorized"
+for call in wharfgrain_round wharfgrain_round_bytes; do
+    found=$(vectorized $call)
+    [ "$found" -ge $loops ] || fail "of the $loops loops by which $call sweeps, $found are vectorized"
 done
 
 # too_many KIND: the rows of the table of instructions that are above what the kind may take

@@ -7,8 +7,7 @@ use Rattle.grid.specs.declared.Format.{Format}
 use Rattle.magnitudes.specs.declared.Settings.{Settings}
 use Rattle.magnitudes.specs.Modes.{mode_of}
 use Rattle.magnitudes.specs.BySettings.{settings}
-use Rattle.rounding.specs.declared.Prepared.{Prepared}
-use Rattle.rounding.specs.BySettings.{rounded_by, unless_refused}
+use Rattle.rounding.specs.BySettings.{Prepared, rounded_by, unless_refused}
 use Rattle.arrays.specs.Rounding.{array_refusal}
 
 -- the settings to round by, or the number of the first refusal that applies, by the three lengths

@@ -1,36 +1,41 @@
-// The calls: decide, then write.
-ghost use Rattle.std.specs.Prelude.{◌≡◌};
+// The call: decide, then write.
+ghost use Rattle.std.specs.Prelude.{◌≡◌, OnErr};
+ghost use Rattle.reports.specs.Reports.{reported_by};
 ghost use Rattle.arrays.specs.Rounding.{reported, afterwards};
 
 use super::decisions::{decide, uses_word};
+use super::inputs::Inputs;
 use super::loops::round_all;
 use grid::Format;
-use reports::{Report, report_of};
-use rounding::Prepared;
+use reports::Refused;
+use words::Entry;
 
-// Every pattern of xs rounded into out, place i with word i in modes 7 and 8; or a refusal, and out
-// as it was. In the other modes no word is looked at: the loop is lent xs in their place.
-pub fn round_array(
+// Rounds every pattern of xs into out, place i with word i in modes 7 and 8; or refuses, and leaves out as it was.
+// In the other modes no word is looked at: the loop is lent xs in their place.
+pub fn round_array<T: Entry>(
     format: Format,
     mode: u64,
     r: u64,
-    words: &[u64],
-    xs: &[u64],
-    out: &mut [u64],
-) -> Report
-    ensures answer { result ≡ reported format mode r words.now xs.now out.old }
-    ensures written { out.new ≡ afterwards format mode r words.now xs.now out.old }
+    words: &[T],
+    xs: &[T],
+    out: &mut [T],
+) -> Result<(), Refused>
+    ensures answer { reported_by result ≡ reported format mode r (T.words words.now) (T.words xs.now) (T.words out.old) }
+    ensures written { T.words out.new ≡ afterwards format mode r (T.words words.now) (T.words xs.now) (T.words out.old) }
+    ensures kept { OnErr result (out.new ≡ out.old) }
 {
-    match decide(format, mode, r, words.len(), xs.len(), out.len()) {
-        Prepared::Ready(s) => {
-            let known = s.mode;
-            if uses_word(known) {
-                round_all(s, mode, r, words, xs, out);
-                return report_of(0);
-            }
-            round_all(s, mode, r, xs, xs, out);
-            report_of(0)
-        }
-        Prepared::Refused(number) => report_of(number),
+    let s = decide(
+        format,
+        mode,
+        r,
+        T::count(words),
+        T::count(xs),
+        T::count(out),
+    )?;
+    if uses_word(s.mode) {
+        round_all(s, &Inputs { words, xs }, out);
+        return Ok(());
     }
+    round_all(s, &Inputs { words: xs, xs }, out);
+    Ok(())
 }

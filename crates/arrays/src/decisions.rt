@@ -1,48 +1,41 @@
 // What is decided before anything is written.
 ghost use Rattle.std.specs.Prelude.{◌≡◌};
 ghost use Rattle.magnitudes.specs.Modes.{uses_word};
+ghost use Rattle.refusals.specs.Refusals.{in_numbers, refusal_number};
+ghost use Rattle.rounding.specs.BySettings.{Ready, Refused};
 ghost use Rattle.arrays.specs.Rounding.{lengths_refusal};
 ghost use Rattle.arrays.specs.Loops.{decided};
 
 use grid::Format;
-use magnitudes::Mode;
-use rounding::{Prepared, prepare};
+use magnitudes::{Mode, Settings};
+use refusals::Refusal;
+use rounding::prepare;
 
 // Whether the mode looks at the word: modes 7 and 8 do.
+#[tactic(auto, unfolding(magnitudes::specs::Modes::uses_word))]
 pub fn uses_word(mode: Mode) -> bool
     ensures { result ≡ uses_word mode }
 {
-    match mode {
-        Mode::TiesToEven => false,
-        Mode::TiesToZero => false,
-        Mode::TiesAway => false,
-        Mode::TowardZero => false,
-        Mode::TowardPlus => false,
-        Mode::TowardMinus => false,
-        Mode::ToOdd => false,
-        Mode::Stochastic(_) => true,
-        Mode::EvenChance => true,
-    }
+    matches!(mode, Mode::Stochastic(_) | Mode::EvenChance)
 }
 
-// The number of the first refusal that the three lengths give, and 0 where they give none: 5 for the
-// output, 6 for the words.
-fn lengths_refusal(mode: Mode, words: usize, inputs: usize, outputs: usize) -> u64
-    ensures { result ≡ lengths_refusal mode words inputs outputs }
+// Nothing where the three lengths are accepted; or the first refusal that applies, that of the output before
+// that of the words.
+#[tactic(auto, unfolding(crate::specs::Rounding::lengths_refusal))]
+fn check_lengths(mode: Mode, words: usize, inputs: usize, outputs: usize) -> Result<(), Refusal>
+    ensures { refusal_number result ≡ lengths_refusal mode words inputs outputs }
 {
     if outputs != inputs {
-        return 5;
+        return Err(Refusal::OutputLength);
     }
-    if !uses_word(mode) {
-        return 0;
+    if uses_word(mode) && words < inputs {
+        return Err(Refusal::WordsLength);
     }
-    if words < inputs {
-        return 6;
-    }
-    0
+    Ok(())
 }
 
-// The settings to round by, or the number of the first refusal that applies.
+// The settings to round by, or the first refusal that applies: what `prepare` refuses, then the lengths.
+#[tactic(auto, using(crate::proofs::Refusals::decided_ready, crate::proofs::Refusals::decided_by_lengths, crate::proofs::Refusals::decided_first))]
 pub fn decide(
     format: Format,
     mode: u64,
@@ -50,18 +43,10 @@ pub fn decide(
     words: usize,
     inputs: usize,
     outputs: usize,
-) -> Prepared
-    ensures { result ≡ decided format mode r words inputs outputs }
+) -> Result<Settings, Refusal>
+    ensures { in_numbers Ready Refused result ≡ decided format mode r words inputs outputs }
 {
-    match prepare(format, mode, r) {
-        Prepared::Ready(s) => {
-            let known = s.mode;
-            let number = lengths_refusal(known, words, inputs, outputs);
-            if number == 0 {
-                return Prepared::Ready(s);
-            }
-            Prepared::Refused(number)
-        }
-        Prepared::Refused(number) => Prepared::Refused(number),
-    }
+    let s = prepare(format, mode, r)?;
+    check_lengths(s.mode, words, inputs, outputs)?;
+    Ok(s)
 }

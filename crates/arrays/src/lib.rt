@@ -6,6 +6,7 @@
 
 mod calls;
 mod decisions;
+mod inputs;
 mod looking;
 mod loops;
 mod sweeping;
@@ -13,4 +14,4 @@ mod sweeping;
 pub use calls::round_array;
 pub use codearrays::{pack_array, unpack_array};
 pub use decisions::{decide, uses_word};
-pub use reports::Report;
+pub use reports::{Refused, Report};

@@ -1,88 +1,113 @@
 // Stretches of an array rounded by the two tables, and what these leave out by the single rounding.
-ghost use Rattle.std.specs.Prelude.{◌≡◌, ◌≤◌, length};
-ghost use Rattle.laws.specs.Fills.{FilledTo};
-ghost use Rattle.magnitudes.specs.Modes.{mode_of};
+ghost use Rattle.std.specs.Prelude.{◌≡◌, ◌≤◌, ◌<◌, length};
+ghost use Rattle.magnitudes.specs.declared.Mode.TheVariants.{Stochastic};
 ghost use Rattle.sweeps.specs.Rules.{place_table};
 ghost use Rattle.sweeps.specs.Rows.{row_table};
-ghost use Rattle.arrays.specs.Loops.{rounded_by_at};
+ghost use Rattle.arrays.specs.Loops.{rounded_by_at, RoundedTo};
 
-use magnitudes::Settings;
+use super::inputs::Inputs;
+use magnitudes::{Mode, Settings};
 use rounding::round_by;
+use std::ops::Range;
 use sweeps::{by_row, place_by};
+use words::Entry;
 
-// The stretch by the tables.
-fn look_up(
-    s: Settings,
-    mode: u64,
-    r: u64,
-    places: &[u8; 2048],
-    rows: &[u64; 512],
-    words: &[u64],
-    xs: &[u64],
-    out: &mut [u64],
-    from: usize,
-    to: usize,
-)
-    requires mode { mode_of mode r ≡ s.mode }
-    requires ends { to ≤ length xs.now }
-    requires words { length xs.now ≤ length words.now }
-    requires outputs { length out.old ≡ length xs.now }
-    requires done { FilledTo (rounded_by_at s words.now xs.now) from out.old }
-    requires places { places.now ≡ place_table s }
-    requires rows { rows.now ≡ row_table s }
-    ensures outputs { length out.new ≡ length xs.now }
-    ensures done { FilledTo (rounded_by_at s words.now xs.now) to out.new }
-{
-    let mut i = from;
-    while i < to {
-        let next = i + 1;
-        let x = xs[i];
-        let place = place_by(places, x);
+// Settings, and the two tables filled for them.
+#[derive(Clone, Copy)]
+pub(crate) struct Tables<'a> {
+    pub(crate) settings: Settings,
+    pub(crate) places: &'a [u8; 2048],
+    pub(crate) rows: &'a [u64; 512],
+    ghost filled_places: { places.now ≡ place_table settings },
+    ghost filled_rows: { rows.now ≡ row_table settings },
+}
+
+impl Tables<'_> {
+    // Rounds the number at place i, in the settings' own mode: by its row, or by the single rounding.
+    #[inline(always)]
+    fn round_at<T: Entry>(&self, mode: Mode, inputs: &Inputs<'_, T>, i: usize) -> u64
+        requires mode { mode ≡ self.now.settings.mode }
+        requires place { i < length (T.words inputs.now.xs.now) }
+        ensures { result ≡ rounded_by_at self.now.settings (T.words inputs.now.words.now) (T.words inputs.now.xs.now) i }
+    {
+        let x = T::word_at(inputs.xs, i);
+        let place = place_by(self.places, x);
         if place < 64 {
-            out[i] = by_row(mode, r, rows, place, words[i], x);
-        } else {
-            out[i] = round_by(s, words[i], x);
+            return by_row(mode, self.rows, place, T::word_at(inputs.words, i), x);
         }
-        i = next;
+        round_by(self.settings, T::word_at(inputs.words, i), x)
     }
 }
 
-// The same. The arms are alike: the compiler makes a loop of its own for each mode. For mode 7, whose loop is the
-// longest, it does so only where that call is the last.
-pub(crate) fn look_up_stretch(
-    s: Settings,
-    mode: u64,
-    r: u64,
-    places: &[u8; 2048],
-    rows: &[u64; 512],
-    words: &[u64],
-    xs: &[u64],
-    out: &mut [u64],
-    from: usize,
-    to: usize,
+// Rounds the stretch by the tables.
+#[inline(always)]
+fn look_up_by<T: Entry>(
+    t: &Tables<'_>,
+    mode: Mode,
+    inputs: &Inputs<'_, T>,
+    out: &mut [T],
+    stretch: Range<usize>,
 )
-    requires mode { mode_of mode r ≡ s.mode }
-    requires ends { to ≤ length xs.now }
-    requires words { length xs.now ≤ length words.now }
-    requires outputs { length out.old ≡ length xs.now }
-    requires done { FilledTo (rounded_by_at s words.now xs.now) from out.old }
-    requires places { places.now ≡ place_table s }
-    requires rows { rows.now ≡ row_table s }
-    ensures outputs { length out.new ≡ length xs.now }
-    ensures done { FilledTo (rounded_by_at s words.now xs.now) to out.new }
+    requires mode { mode ≡ t.now.settings.mode }
+    requires ends { stretch.end ≤ length (T.words inputs.now.xs.now) }
+    requires outputs { length (T.words out.old) ≡ length (T.words inputs.now.xs.now) }
+    requires done { RoundedTo (T.words inputs.now.words.now) (T.words inputs.now.xs.now) t.now.settings stretch.start (T.words out.old) }
+    ensures outputs { length (T.words out.new) ≡ length (T.words inputs.now.xs.now) }
+    ensures done { RoundedTo (T.words inputs.now.words.now) (T.words inputs.now.xs.now) t.now.settings stretch.end (T.words out.new) }
 {
-    if mode != 7 {
-        match mode {
-            0 => look_up(s, 0, 0, places, rows, words, xs, out, from, to),
-            1 => look_up(s, 1, 0, places, rows, words, xs, out, from, to),
-            2 => look_up(s, 2, 0, places, rows, words, xs, out, from, to),
-            3 => look_up(s, 3, 0, places, rows, words, xs, out, from, to),
-            4 => look_up(s, 4, 0, places, rows, words, xs, out, from, to),
-            5 => look_up(s, 5, 0, places, rows, words, xs, out, from, to),
-            6 => look_up(s, 6, 0, places, rows, words, xs, out, from, to),
-            _ => look_up(s, 8, 0, places, rows, words, xs, out, from, to),
-        }
-    } else {
-        look_up(s, 7, r, places, rows, words, xs, out, from, to);
+    // copies, which the compiler need not read again behind each store
+    let tables = *t;
+    let lent = Inputs {
+        words: inputs.words,
+        xs: inputs.xs,
+    };
+    for i in stretch.start..stretch.end {
+        T::put(out, i, tables.round_at(mode, &lent, i));
+    }
+}
+
+// Rounds the stretch by the tables in mode 7. It is a function of its own, since only then the compiler makes a loop for
+// each way to a share.
+fn look_up_shares<T: Entry>(
+    t: &Tables<'_>,
+    r: u64,
+    inputs: &Inputs<'_, T>,
+    out: &mut [T],
+    stretch: Range<usize>,
+)
+    requires mode { Stochastic r ≡ t.now.settings.mode }
+    requires ends { stretch.end ≤ length (T.words inputs.now.xs.now) }
+    requires outputs { length (T.words out.old) ≡ length (T.words inputs.now.xs.now) }
+    requires done { RoundedTo (T.words inputs.now.words.now) (T.words inputs.now.xs.now) t.now.settings stretch.start (T.words out.old) }
+    ensures outputs { length (T.words out.new) ≡ length (T.words inputs.now.xs.now) }
+    ensures done { RoundedTo (T.words inputs.now.words.now) (T.words inputs.now.xs.now) t.now.settings stretch.end (T.words out.new) }
+{
+    look_up_by(t, Mode::Stochastic(r), inputs, out, stretch);
+}
+
+// Rounds the stretch by the tables in any mode. The arms are alike, so that the compiler makes a loop of its own for each
+// mode.
+pub(crate) fn look_up<T: Entry>(
+    t: &Tables<'_>,
+    inputs: &Inputs<'_, T>,
+    out: &mut [T],
+    stretch: Range<usize>,
+)
+    requires ends { stretch.end ≤ length (T.words inputs.now.xs.now) }
+    requires outputs { length (T.words out.old) ≡ length (T.words inputs.now.xs.now) }
+    requires done { RoundedTo (T.words inputs.now.words.now) (T.words inputs.now.xs.now) t.now.settings stretch.start (T.words out.old) }
+    ensures outputs { length (T.words out.new) ≡ length (T.words inputs.now.xs.now) }
+    ensures done { RoundedTo (T.words inputs.now.words.now) (T.words inputs.now.xs.now) t.now.settings stretch.end (T.words out.new) }
+{
+    match t.settings.mode {
+        Mode::TiesToEven => look_up_by(t, Mode::TiesToEven, inputs, out, stretch),
+        Mode::TiesToZero => look_up_by(t, Mode::TiesToZero, inputs, out, stretch),
+        Mode::TiesAway => look_up_by(t, Mode::TiesAway, inputs, out, stretch),
+        Mode::TowardZero => look_up_by(t, Mode::TowardZero, inputs, out, stretch),
+        Mode::TowardPlus => look_up_by(t, Mode::TowardPlus, inputs, out, stretch),
+        Mode::TowardMinus => look_up_by(t, Mode::TowardMinus, inputs, out, stretch),
+        Mode::ToOdd => look_up_by(t, Mode::ToOdd, inputs, out, stretch),
+        Mode::Stochastic(r) => look_up_shares(t, r, inputs, out, stretch),
+        Mode::EvenChance => look_up_by(t, Mode::EvenChance, inputs, out, stretch),
     }
 }

@@ -1,18 +1,17 @@
 // The loop over a whole array, stretch after stretch. It is swept as long as every number fits. The first stretch
 // that does not fit and some behind it go by tables; then one is swept again, and where that does not fit either, a
-// good many more go by them, so that data which never fits is not swept in vain.
+// good many more go by them, so that data which never fits is not swept in vain. A stretch is as long as where it starts
+// says, and who walks it depends on the stretch before: so these loops step by hand, and no range or chain serves.
 ghost use Rattle.std.specs.Prelude.{◌≡◌, ◌≤◌, length};
-ghost use Rattle.laws.specs.Fills.{FilledTo};
-ghost use Rattle.magnitudes.specs.Modes.{mode_of};
-ghost use Rattle.sweeps.specs.Rules.{place_table};
-ghost use Rattle.sweeps.specs.Rows.{row_table};
-ghost use Rattle.arrays.specs.Loops.{rounded_by_at, rounded_all_by};
+ghost use Rattle.arrays.specs.Loops.{RoundedTo, rounded_all_by};
 
-use super::looking::look_up_stretch;
+use super::inputs::Inputs;
+use super::looking::{Tables, look_up};
 use super::sweeping::sweep;
 use magnitudes::Settings;
 use rounding::round_by;
 use sweeps::{fill_places, fill_rows, stretch_end};
+use words::Entry;
 
 // How many stretches go by the tables before one is swept again: from the first that did not fit on, and where
 // the next that was swept did not fit either.
@@ -23,20 +22,18 @@ const PATIENCE: u64 = 32;
 // How many places are left at least where the tables are worth their filling.
 const WORTH_TABLES: usize = 40;
 
-// Every stretch swept up to the first of which not every number fits. Answers where that starts.
-fn sweep_on(s: Settings, mode: u64, r: u64, words: &[u64], xs: &[u64], out: &mut [u64]) -> usize
-    requires mode { mode_of mode r ≡ s.mode }
-    requires words { length xs.now ≤ length words.now }
-    requires outputs { length out.old ≡ length xs.now }
-    ensures within { result ≤ length xs.now }
-    ensures outputs { length out.new ≡ length xs.now }
-    ensures done { FilledTo (rounded_by_at s words.now xs.now) result out.new }
+// Sweeps every stretch up to the first of which not every number fits. Answers where that starts.
+fn sweep_on<T: Entry>(s: Settings, inputs: &Inputs<'_, T>, out: &mut [T]) -> usize
+    requires outputs { length (T.words out.old) ≡ length (T.words inputs.now.xs.now) }
+    ensures within { result ≤ length (T.words inputs.now.xs.now) }
+    ensures outputs { length (T.words out.new) ≡ length (T.words inputs.now.xs.now) }
+    ensures done { RoundedTo (T.words inputs.now.words.now) (T.words inputs.now.xs.now) s result (T.words out.new) }
 {
-    let n = xs.len();
+    let n = T::count(inputs.xs);
     let mut from = 0;
     while from < n {
         let to = stretch_end(from, n);
-        if sweep(s, mode, r, words, xs, out, from, to) != 0 {
+        if !sweep(s, inputs, out, from..to) {
             return from;
         }
         from = to;
@@ -44,99 +41,79 @@ fn sweep_on(s: Settings, mode: u64, r: u64, words: &[u64], xs: &[u64], out: &mut
     from
 }
 
-// The places from `from` on by tables that are filled. The first stretch is known not to fit.
-fn look_on(
-    s: Settings,
-    mode: u64,
-    r: u64,
-    places: &[u8; 2048],
-    rows: &[u64; 512],
-    words: &[u64],
-    xs: &[u64],
-    out: &mut [u64],
-    from: usize,
-)
-    requires mode { mode_of mode r ≡ s.mode }
-    requires words { length xs.now ≤ length words.now }
-    requires outputs { length out.old ≡ length xs.now }
-    requires starts { from ≤ length xs.now }
-    requires done { FilledTo (rounded_by_at s words.now xs.now) from out.old }
-    requires places { places.now ≡ place_table s }
-    requires rows { rows.now ≡ row_table s }
-    ensures { out.new ≡ rounded_all_by s words.now xs.now }
+// Rounds the places from `from` on by tables that are filled. The first stretch is known not to fit.
+fn look_on<T: Entry>(t: &Tables<'_>, inputs: &Inputs<'_, T>, out: &mut [T], from: usize)
+    requires outputs { length (T.words out.old) ≡ length (T.words inputs.now.xs.now) }
+    requires starts { from ≤ length (T.words inputs.now.xs.now) }
+    requires done { RoundedTo (T.words inputs.now.words.now) (T.words inputs.now.xs.now) t.now.settings from (T.words out.old) }
+    ensures { T.words out.new ≡ rounded_all_by t.now.settings (T.words inputs.now.words.now) (T.words inputs.now.xs.now) }
 {
-    let n = xs.len();
+    let n = T::count(inputs.xs);
     let mut patience = FIRST_PATIENCE;
     let mut again = PATIENCE;
     let mut i = from;
     while i < n {
         let to = stretch_end(i, n);
         if patience == 0 {
-            if sweep(s, mode, r, words, xs, out, i, to) == 0 {
+            if sweep(t.settings, inputs, out, i..to) {
                 again = 0;
             } else {
-                look_up_stretch(s, mode, r, places, rows, words, xs, out, i, to);
+                look_up(t, inputs, out, i..to);
                 patience = again;
                 again = PATIENCE;
             }
         } else {
-            look_up_stretch(s, mode, r, places, rows, words, xs, out, i, to);
+            look_up(t, inputs, out, i..to);
             patience -= 1;
         }
         i = to;
     }
 }
 
-// The places from `from` on by tables.
-fn round_by_tables(
-    s: Settings,
-    mode: u64,
-    r: u64,
-    words: &[u64],
-    xs: &[u64],
-    out: &mut [u64],
-    from: usize,
-)
-    requires mode { mode_of mode r ≡ s.mode }
-    requires words { length xs.now ≤ length words.now }
-    requires outputs { length out.old ≡ length xs.now }
-    requires starts { from ≤ length xs.now }
-    requires done { FilledTo (rounded_by_at s words.now xs.now) from out.old }
-    ensures { out.new ≡ rounded_all_by s words.now xs.now }
+// Rounds the places from `from` on by tables.
+fn round_by_tables<T: Entry>(s: Settings, inputs: &Inputs<'_, T>, out: &mut [T], from: usize)
+    requires outputs { length (T.words out.old) ≡ length (T.words inputs.now.xs.now) }
+    requires starts { from ≤ length (T.words inputs.now.xs.now) }
+    requires done { RoundedTo (T.words inputs.now.words.now) (T.words inputs.now.xs.now) s from (T.words out.old) }
+    ensures { T.words out.new ≡ rounded_all_by s (T.words inputs.now.words.now) (T.words inputs.now.xs.now) }
 {
     let mut places = [0; 2048];
     let mut rows = [0; 512];
     fill_places(s, &mut places);
     fill_rows(s, &mut rows);
-    look_on(s, mode, r, &places, &rows, words, xs, out, from);
+    let tables = Tables {
+        settings: s,
+        places: &places,
+        rows: &rows,
+    };
+    look_on(&tables, inputs, out, from);
 }
 
-// The places from `from` on, one after the other, by the single rounding.
-fn round_each(s: Settings, words: &[u64], xs: &[u64], out: &mut [u64], from: usize)
-    requires words { length xs.now ≤ length words.now }
-    requires outputs { length out.old ≡ length xs.now }
-    requires starts { from ≤ length xs.now }
-    requires done { FilledTo (rounded_by_at s words.now xs.now) from out.old }
-    ensures { out.new ≡ rounded_all_by s words.now xs.now }
+// Rounds the places from `from` on one after the other, by the single rounding.
+fn round_each<T: Entry>(s: Settings, inputs: &Inputs<'_, T>, out: &mut [T], from: usize)
+    requires outputs { length (T.words out.old) ≡ length (T.words inputs.now.xs.now) }
+    requires starts { from ≤ length (T.words inputs.now.xs.now) }
+    requires done { RoundedTo (T.words inputs.now.words.now) (T.words inputs.now.xs.now) s from (T.words out.old) }
+    ensures { T.words out.new ≡ rounded_all_by s (T.words inputs.now.words.now) (T.words inputs.now.xs.now) }
 {
-    let mut i = from;
-    while i < xs.len() {
-        out[i] = round_by(s, words[i], xs[i]);
-        i += 1;
+    for i in from..T::count(inputs.xs) {
+        T::put(
+            out,
+            i,
+            round_by(s, T::word_at(inputs.words, i), T::word_at(inputs.xs, i)),
+        );
     }
 }
 
-// Every place rounded by the settings into out.
-pub(crate) fn round_all(s: Settings, mode: u64, r: u64, words: &[u64], xs: &[u64], out: &mut [u64])
-    requires mode { mode_of mode r ≡ s.mode }
-    requires words { length xs.now ≤ length words.now }
-    requires outputs { length out.old ≡ length xs.now }
-    ensures { out.new ≡ rounded_all_by s words.now xs.now }
+// Rounds every place by the settings into out.
+pub(crate) fn round_all<T: Entry>(s: Settings, inputs: &Inputs<'_, T>, out: &mut [T])
+    requires outputs { length (T.words out.old) ≡ length (T.words inputs.now.xs.now) }
+    ensures { T.words out.new ≡ rounded_all_by s (T.words inputs.now.words.now) (T.words inputs.now.xs.now) }
 {
-    let from = sweep_on(s, mode, r, words, xs, out);
-    if xs.len() - from < WORTH_TABLES {
-        round_each(s, words, xs, out, from);
+    let from = sweep_on(s, inputs, out);
+    if T::count(inputs.xs) - from < WORTH_TABLES {
+        round_each(s, inputs, out, from);
     } else {
-        round_by_tables(s, mode, r, words, xs, out, from);
+        round_by_tables(s, inputs, out, from);
     }
 }

@@ -8,10 +8,8 @@ use Rattle.grid.specs.Formats.{step}
 use Rattle.grid.specs.Neighbours.{lo}
 use Rattle.known.specs.Table.{with_subnormals}
 use Rattle.magnitudes.specs.Modes.{K}
-use Rattle.rounding.specs.declared.Answer.{Answer}
-use Rattle.rounding.specs.Calls.{round_one}
-use Rattle.bylayout.specs.declared.Packed.{Packed}
-use Rattle.bylayout.specs.declared.Unpacked.{Unpacked}
+use Rattle.rounding.specs.Calls.{Answer, round_one}
+use Rattle.bylayout.specs.Answers.{Packed, Unpacked}
 use Rattle.codes.specs.Calls.{pack_one, unpack_one}
 
 abbrev pub binary16 : Format

@@ -1,7 +1,9 @@
 // The answers to telling inputs, a table a subject.
-use super::rows::{print_answers, print_draw};
+use crate::Failure;
+use crate::rows::{print_answers, print_draw};
 use grid::Format;
 use known::known_format;
+use std::fmt;
 
 // Ties in binary16, beside an even and an odd m, and one last place of binary64 on either side.
 const NEAR_ONE: [u64; 9] = [
@@ -80,63 +82,71 @@ fn format(p: u64, emax: u64, sub: bool) -> Format {
 }
 
 // Writes the answers to each input.
-fn answer_each(format: Format, xs: &[u64]) {
-    let mut i = 0;
-    while i < xs.len() {
-        print_answers(format, xs[i]);
-        i += 1;
+fn answer_each(text: &mut impl fmt::Write, format: Format, xs: &[u64]) -> fmt::Result {
+    for x in xs {
+        print_answers(text, format, *x)?;
     }
+    Ok(())
 }
 
 // Around 1, at the top, and below the normal range.
-pub(crate) fn in_binary16() {
-    let f = known_format(0).format;
-    answer_each(f, &NEAR_ONE);
-    answer_each(f, &NEAR_THE_TOP);
-    answer_each(f, &NEAR_ZETA);
+pub(crate) fn in_binary16(text: &mut impl fmt::Write) -> Result<(), Failure> {
+    let f = known_format(0)?;
+    answer_each(text, f, &NEAR_ONE)?;
+    answer_each(text, f, &NEAR_THE_TOP)?;
+    answer_each(text, f, &NEAR_ZETA)?;
+    Ok(())
 }
 
 // Without subnormals, in binary16 and in binary64; and binary64's own subnormals, to 24 digits and to
 // binary64 itself.
-pub(crate) fn of_subnormals() {
-    answer_each(format(11, 15, false), &WITHOUT_SUBNORMALS);
+pub(crate) fn of_subnormals(text: &mut impl fmt::Write) -> Result<(), Failure> {
+    answer_each(text, format(11, 15, false), &WITHOUT_SUBNORMALS)?;
     answer_each(
+        text,
         format(53, 1023, false),
         &[0x0008_0000_0000_0000, 0x8000_0000_0000_0001],
-    );
-    answer_each(format(24, 1023, true), &SOURCE_SUBNORMALS);
-    answer_each(known_format(4).format, &[1, 0x000F_FFFF_FFFF_FFFF]);
+    )?;
+    answer_each(text, format(24, 1023, true), &SOURCE_SUBNORMALS)?;
+    answer_each(text, known_format(4)?, &[1, 0x000F_FFFF_FFFF_FFFF])?;
+    Ok(())
 }
 
 // The fewest and the most digits, and the smallest and the largest emax.
-pub(crate) fn ends_of_the_range() {
+pub(crate) fn ends_of_the_range(text: &mut impl fmt::Write) -> fmt::Result {
     answer_each(
+        text,
         format(2, 15, true),
         &[0x3FF4_0000_0000_0000, 0x3FFC_0000_0000_0000],
-    );
-    answer_each(format(53, 15, true), &[0x3FF0_0000_0000_0001]);
+    )?;
+    answer_each(text, format(53, 15, true), &[0x3FF0_0000_0000_0001])?;
     answer_each(
+        text,
         format(11, 1, true),
         &[0x400F_FE00_0000_0000, 0x4010_0000_0000_0000],
-    );
+    )?;
     answer_each(
+        text,
         format(11, 1023, true),
         &[0x7FEF_FE00_0000_0000, 0x7FEF_FFFF_FFFF_FFFF],
-    );
+    )
 }
 
 // What comes back as it is.
-pub(crate) fn unaltered() {
-    answer_each(known_format(0).format, &UNALTERED);
+pub(crate) fn unaltered(text: &mut impl fmt::Write) -> Result<(), Failure> {
+    answer_each(text, known_format(0)?, &UNALTERED)?;
+    Ok(())
 }
 
 // Document 01's job, between 3 and 3.25, and the most random bits: K is 2048 of 2^53.
-pub(crate) fn job() {
+pub(crate) fn job(text: &mut impl fmt::Write) -> Result<(), Failure> {
     let f = format(4, 15, true);
-    print_draw(f, 3, 4, 0x4008_C000_0000_0000);
-    print_draw(f, 3, 5, 0x4008_C000_0000_0000);
-    print_draw(f, 3, 13, 0x4008_C000_0000_0000);
-    let g = known_format(0).format;
-    print_draw(g, 53, 0x001F_FFFF_FFFF_F7FF, 0x3FF0_0000_0000_0001);
-    print_draw(g, 53, 0x001F_FFFF_FFFF_F800, 0x3FF0_0000_0000_0001);
+    for word in [4, 5, 13] {
+        print_draw(text, f, 3, word, 0x4008_C000_0000_0000)?;
+    }
+    let g = known_format(0)?;
+    for word in [0x001F_FFFF_FFFF_F7FF, 0x001F_FFFF_FFFF_F800] {
+        print_draw(text, g, 53, word, 0x3FF0_0000_0000_0001)?;
+    }
+    Ok(())
 }

@@ -1,8 +1,10 @@
 // Published codes of the six known formats, there and back: the ends of the subnormal and of the normal
 // range, 1 and what is beside it, the nearest to 1/3 and to pi, infinity, and some with the other sign.
 // tests/worked_examples.py has the numbers that are published of them. Then NaNs, in eight bits and in 64.
-use super::packing::unpack_each;
+use crate::Failure;
+use crate::packing::unpack_each;
 use known::known_format;
+use std::fmt;
 
 const BINARY16: [u64; 20] = [
     0x0000, 0x0001, 0x03FF, 0x0400, 0x3555, 0x3BFF, 0x3C00, 0x3C01, 0x7BFF, 0x7C00, 0x8000, 0x8001,
@@ -57,11 +59,17 @@ const E5M2: [u64; 15] = [
 ];
 
 // By the formats' numbers.
-pub(crate) fn published() {
-    unpack_each(known_format(0).format, &BINARY16);
-    unpack_each(known_format(1).format, &BFLOAT16);
-    unpack_each(known_format(2).format, &TENSORFLOAT32);
-    unpack_each(known_format(3).format, &BINARY32);
-    unpack_each(known_format(4).format, &BINARY64);
-    unpack_each(known_format(5).format, &E5M2);
+pub(crate) fn published(text: &mut impl fmt::Write) -> Result<(), Failure> {
+    let tables: [&[u64]; 6] = [
+        &BINARY16,
+        &BFLOAT16,
+        &TENSORFLOAT32,
+        &BINARY32,
+        &BINARY64,
+        &E5M2,
+    ];
+    for (known, codes) in (0..6).zip(tables) {
+        unpack_each(text, known_format(known)?, codes)?;
+    }
+    Ok(())
 }

@@ -1,42 +1,52 @@
 // Which settings are accepted, and by which number the others are refused.
-use super::rows::print_call;
-
-// The last 64-bit number.
-const LAST: u64 = 0xFFFF_FFFF_FFFF_FFFF;
+use crate::rows::print_call;
+use std::fmt;
 
 // p and emax, at the ends of their ranges and outside.
-pub(crate) fn formats() {
-    print_call(2, 15, 0, 0);
-    print_call(53, 15, 0, 0);
-    print_call(11, 1, 0, 0);
-    print_call(11, 1023, 0, 0);
-    // 1: p
-    print_call(0, 15, 0, 0);
-    print_call(1, 15, 0, 0);
-    print_call(54, 15, 0, 0);
-    print_call(LAST, 15, 0, 0);
-    // 2: emax
-    print_call(11, 0, 0, 0);
-    print_call(11, 1024, 0, 0);
-    print_call(11, LAST, 0, 0);
+pub(crate) fn formats(text: &mut impl fmt::Write) -> fmt::Result {
+    let ranges = [
+        (2, 15),
+        (53, 15),
+        (11, 1),
+        (11, 1023),
+        // 1: p
+        (0, 15),
+        (1, 15),
+        (54, 15),
+        (u64::MAX, 15),
+        // 2: emax
+        (11, 0),
+        (11, 1024),
+        (11, u64::MAX),
+    ];
+    for (p, emax) in ranges {
+        print_call(text, p, emax, 0, 0)?;
+    }
+    Ok(())
 }
 
 // The mode and r, and which refusal comes first.
-pub(crate) fn modes() {
-    print_call(11, 15, 7, 1);
-    print_call(11, 15, 7, 53);
-    // only mode 7 looks at r
-    print_call(11, 15, 6, 54);
-    print_call(11, 15, 8, LAST);
-    // 3: the mode
-    print_call(11, 15, 9, 1);
-    print_call(11, 15, LAST, 1);
-    // 4: r in mode 7
-    print_call(11, 15, 7, 0);
-    print_call(11, 15, 7, 54);
-    print_call(11, 15, 7, LAST);
-    // the first that applies
-    print_call(1, 1024, 9, 0);
-    print_call(11, 1024, 9, 0);
-    print_call(11, 1024, 7, 0);
+pub(crate) fn modes(text: &mut impl fmt::Write) -> fmt::Result {
+    let settings = [
+        (11, 15, 7, 1),
+        (11, 15, 7, 53),
+        // only mode 7 looks at r
+        (11, 15, 6, 54),
+        (11, 15, 8, u64::MAX),
+        // 3: the mode
+        (11, 15, 9, 1),
+        (11, 15, u64::MAX, 1),
+        // 4: r in mode 7
+        (11, 15, 7, 0),
+        (11, 15, 7, 54),
+        (11, 15, 7, u64::MAX),
+        // the first that applies
+        (1, 1024, 9, 0),
+        (11, 1024, 9, 0),
+        (11, 1024, 7, 0),
+    ];
+    for (p, emax, mode, r) in settings {
+        print_call(text, p, emax, mode, r)?;
+    }
+    Ok(())
 }

@@ -1,10 +1,9 @@
 // Packing and unpacking: NaNs, what is refused, and which formats have a code.
-use super::rows::{print_packed, print_unpacked};
+use crate::Failure;
+use crate::rows::{print_packed, print_unpacked};
 use grid::Format;
 use known::known_format;
-
-// The last 64-bit number.
-const LAST: u64 = 0xFFFF_FFFF_FFFF_FFFF;
+use std::fmt;
 
 // 1, and the next number of binary64.
 const ONE: u64 = 0x3FF0_0000_0000_0000;
@@ -54,83 +53,91 @@ const SMALL: [u64; 7] = [
 ];
 
 // Writes the code of each pattern.
-fn pack_each(format: Format, xs: &[u64]) {
-    let mut i = 0;
-    while i < xs.len() {
-        print_packed(format, xs[i]);
-        i += 1;
+fn pack_each(text: &mut impl fmt::Write, format: Format, xs: &[u64]) -> fmt::Result {
+    for x in xs {
+        print_packed(text, format, *x)?;
     }
+    Ok(())
 }
 
 // Writes the pattern of each code and, unless it is refused, the code of that pattern.
-pub(crate) fn unpack_each(format: Format, codes: &[u64]) {
-    let mut i = 0;
-    while i < codes.len() {
-        let answer = print_unpacked(format, codes[i]);
-        if answer.number == 0 {
-            print_packed(format, answer.pattern);
+pub(crate) fn unpack_each(
+    text: &mut impl fmt::Write,
+    format: Format,
+    codes: &[u64],
+) -> fmt::Result {
+    for c in codes {
+        if let Ok(pattern) = print_unpacked(text, format, *c)? {
+            print_packed(text, format, pattern)?;
         }
-        i += 1;
     }
+    Ok(())
 }
 
 // NaNs, to eight bits and to 64.
-pub(crate) fn nans() {
-    pack_each(known_format(5).format, &NANS);
-    pack_each(known_format(4).format, &NANS);
+pub(crate) fn nans(text: &mut impl fmt::Write) -> Result<(), Failure> {
+    pack_each(text, known_format(5)?, &NANS)?;
+    pack_each(text, known_format(4)?, &NANS)?;
+    Ok(())
 }
 
 // 8: a pattern that the format lacks. 9: a code with more than k bits.
-pub(crate) fn lacking() {
-    let f = known_format(0).format;
-    pack_each(f, &LACKING);
-    unpack_each(f, &[0x1_0000, 0x1_3C00, LAST]);
+pub(crate) fn lacking(text: &mut impl fmt::Write) -> Result<(), Failure> {
+    let f = known_format(0)?;
+    pack_each(text, f, &LACKING)?;
+    unpack_each(text, f, &[0x1_0000, 0x1_3C00, u64::MAX])?;
+    Ok(())
 }
 
 // Without subnormals, 10: a code that is no number. 9 comes before it.
-pub(crate) fn without_subnormals() {
-    let f = known_format(0).format;
-    let without = Format { sub: false, ..f };
-    pack_each(without, &SMALL);
-    unpack_each(without, &[0x0000, 0x0001, 0x03FF, 0x0400]);
-    unpack_each(without, &[0x8000, 0x8001, 0x83FF, 0x8400, 0x1_0001]);
+pub(crate) fn without_subnormals(text: &mut impl fmt::Write) -> Result<(), Failure> {
+    let without = Format {
+        sub: false,
+        ..known_format(0)?
+    };
+    pack_each(text, without, &SMALL)?;
+    unpack_each(text, without, &[0x0000, 0x0001, 0x03FF, 0x0400])?;
+    unpack_each(text, without, &[0x8000, 0x8001, 0x83FF, 0x8400, 0x1_0001])?;
+    Ok(())
 }
 
-// Writes the codes of 1 and of the number after it in a format, and the patterns of code 1 and of the
-// last 64-bit number.
-fn print_in(p: u64, emax: u64) {
-    let format = Format { p, emax, sub: true };
-    print_packed(format, ONE);
-    print_packed(format, AFTER_ONE);
-    print_unpacked(format, 1);
-    print_unpacked(format, LAST);
-}
-
-// Which formats have a code, and by which number the others are refused; 8 and 9 come after these.
-pub(crate) fn formats() {
-    print_in(2, 1);
-    print_in(2, 1023);
-    print_in(11, 1);
-    print_in(11, 127);
-    print_in(11, 1023);
-    print_in(53, 1);
-    print_in(53, 511);
-    print_in(53, 1023);
-    // 1: p
-    print_in(0, 15);
-    print_in(1, 15);
-    print_in(1, 100);
-    print_in(1, 1024);
-    print_in(54, 15);
-    print_in(LAST, 15);
-    // 2: emax
-    print_in(11, 0);
-    print_in(11, 1024);
-    print_in(11, 2047);
-    print_in(11, LAST);
-    // 7: emax + 1 is no power of two
-    print_in(11, 2);
-    print_in(11, 14);
-    print_in(11, 100);
-    print_in(11, 1022);
+// Which formats have a code, and by which number the others are refused; 8 and 9 come after these. Writes the
+// codes of 1 and of the number after it in each format, and the patterns of code 1 and of the last 64-bit
+// number.
+pub(crate) fn formats(text: &mut impl fmt::Write) -> fmt::Result {
+    let ranges = [
+        (2, 1),
+        (2, 1023),
+        (11, 1),
+        (11, 127),
+        (11, 1023),
+        (53, 1),
+        (53, 511),
+        (53, 1023),
+        // 1: p
+        (0, 15),
+        (1, 15),
+        (1, 100),
+        (1, 1024),
+        (54, 15),
+        (u64::MAX, 15),
+        // 2: emax
+        (11, 0),
+        (11, 1024),
+        (11, 2047),
+        (11, u64::MAX),
+        // 7: emax + 1 is no power of two
+        (11, 2),
+        (11, 14),
+        (11, 100),
+        (11, 1022),
+    ];
+    for (p, emax) in ranges {
+        let format = Format { p, emax, sub: true };
+        pack_each(text, format, &[ONE, AFTER_ONE])?;
+        for c in [1, u64::MAX] {
+            let _ = print_unpacked(text, format, c)?;
+        }
+    }
+    Ok(())
 }

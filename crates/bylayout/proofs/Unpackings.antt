@@ -1,11 +1,9 @@
--- A code unpacked by a layout, as the code comes to it: each definition of specs/ByLayout.antt on unpacking in the form in which
--- calls and branches leave its parts. Assumes nothing.
-use Rattle.std.proofs.Common.{◌≡◌, ℕ, ◌+◌, ◌-◌, ◌%◌, ◌^◌, ◌<◌, ◌≤◌, Bool, true, false, not, eqb, ltb, le-ltb, lt-ltb, eq-eqb, ne_eqb}
-use Rattle.patterns.specs.Patterns.{mag, with_sign, infinity, quiet_nan, digits_of}
+-- The magnitude pattern of a code's fields by a layout, by where they lie. Assumes nothing.
+use Rattle.std.proofs.Common.{◌≡◌, ℕ, ◌+◌, ◌-◌, ◌%◌, ◌^◌, ◌<◌, ◌≤◌, le-ltb, lt-ltb, eq-eqb, ne_eqb}
+use Rattle.patterns.specs.Patterns.{infinity, quiet_nan, digits_of}
 use Rattle.places.specs.Places.{high, moved_up}
 use Rattle.layouts.specs.declared.Layout.{Layout}
-use Rattle.bylayout.specs.Answers.{as_pattern, no_pattern}
-use Rattle.bylayout.specs.ByLayout.{small_pattern, magnitude_by, no_number_by, lifted, unpacked_by}
+use Rattle.bylayout.specs.ByLayout.{small_pattern, magnitude_by}
 
 -- ---- below the normal range: 0, a fraction alone, or a first digit where a normal number has it
 
@@ -46,35 +44,3 @@ module _ (l : Layout) (n : ℕ) where
       pub unpacks_nan : (n ≡ l.infinity → ⊥) → quiet_nan ≡ magnitude_by l n
       unfolding magnitude_by
       unpacks_nan above = simp (le-ltb n l.first normal, le-ltb n l.infinity past, ne_eqb n l.infinity above)
-
-  -- ---- whether the fields are no number: asked only without subnormals, and then only above 0
-
-  pub number-kept : l.sub ≡ true → false ≡ no_number_by l n
-  unfolding no_number_by
-  number-kept kept = simp kept
-
-  module _ (lacks : l.sub ≡ false) where
-    pub number_asked : (n ≡ 0 → ⊥) → ltb n l.first ≡ no_number_by l n
-    unfolding no_number_by
-    number_asked some = simp (lacks, ne_eqb n 0 some)
-
-    pub number-zero : n ≡ 0 → not (eqb n 0) ≡ no_number_by l n
-    unfolding no_number_by
-    number-zero none = simp (lacks, eq-eqb n 0 none)
-
--- ---- the whole code: refused as 9 or 10, or unpacked
-
-module _ (l : Layout) (c : ℕ) where
-  pub answers_too_large : l.last < c → no_pattern 9 ≡ unpacked_by l c
-  unfolding unpacked_by
-  answers_too_large wide = simp (lt-ltb l.last c wide)
-
-  module _ (fits : c ≤ l.last) (w : ℕ) (moved : w ≡ lifted l c) (m : ℕ) (unsigned : m ≡ mag w)
-      (n : ℕ) (cut : n ≡ high m l.spare) (b : Bool) (tested : b ≡ no_number_by l n) where
-    pub answers-no_number : b ≡ true → no_pattern 10 ≡ unpacked_by l c
-    unfolding unpacked_by
-    answers-no_number none = simp (le-ltb l.last c fits, ← moved, ← unsigned, ← cut, ← tested, none)
-
-    pub answers_pattern : b ≡ false → (y : ℕ) → y ≡ magnitude_by l n → (x : ℕ) → x ≡ with_sign w y → as_pattern x ≡ unpacked_by l c
-    unfolding unpacked_by
-    answers_pattern some y is x put = simp (le-ltb l.last c fits, ← moved, ← unsigned, ← cut, ← tested, some, put, is)

@@ -7,9 +7,7 @@ use Rattle.patterns.specs.declared.Kind.TheVariants.{Zero, Finite, Infinity, NaN
 use Rattle.patterns.specs.Patterns.{mag, with_sign, infinity, quiet_nan, kind_of, ex, sig, digits_of}
 use Rattle.places.specs.Places.{high, low, moved_up}
 use Rattle.layouts.specs.declared.Layout.{Layout}
-use Rattle.bylayout.specs.declared.Packed.{Packed}
-use Rattle.bylayout.specs.declared.Unpacked.{Unpacked}
-use Rattle.bylayout.specs.Answers.{as_code, no_code, as_pattern, no_pattern}
+use Rattle.bylayout.specs.Answers.{Packed, Unpacked, as_code, no_code, as_pattern, no_pattern}
 
 -- ---- packing
 

@@ -9,17 +9,3 @@ mod unpacking;
 
 pub use packing::pack_by;
 pub use unpacking::unpack_by;
-
-// The answer of packing: number 0 and the code, or the number of the refusal and code 0.
-#[derive(Clone, Copy)]
-pub struct Packed {
-    pub number: u64,
-    pub code: u64,
-}
-
-// The answer of unpacking: number 0 and the pattern, or the number of the refusal and pattern 0.
-#[derive(Clone, Copy)]
-pub struct Unpacked {
-    pub number: u64,
-    pub pattern: u64,
-}

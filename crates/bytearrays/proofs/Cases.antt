@@ -26,7 +26,7 @@ use Rattle.reports.specs.declared.Report.{Report}
 use Rattle.reports.specs.Reports.{first_refused}
 use Rattle.codearrays.specs.Codes.{then_lengths, codes_reported, codes_afterwards}
 use Rattle.arrays.specs.Rounding.{lengths_refusal, array_refusal, reported, rounded_at, afterwards}
-use Rattle.bytearrays.specs.Bytes.{byte_by, bytes_of, word_at, words_of, ragged}
+use Rattle.words.specs.Bytes.{byte_by, bytes_of, word_at, words_of, ragged}
 use Rattle.bytearrays.specs.Calls.{bytes_reported, bytes_afterwards, round_bytes_reported, round_bytes_afterwards, pack_bytes_reported, pack_bytes_afterwards, unpack_bytes_reported, unpack_bytes_afterwards}
 
 -- ---- words among bytes

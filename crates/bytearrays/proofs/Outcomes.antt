@@ -1,5 +1,5 @@
 -- What a call on bytes reports and leaves in the output, over any call on words. Assumes nothing.
-use mathlib.Core.Bool.{Bool, true, false, cond, not}
+use mathlib.Core.Bool.{Bool, true, false, cond}
 use mathlib.Core.List.{List}
 use mathlib.Core.Path.{◌≡◌, refl, sym, ap, ◌∙◌}
 use Prim.Native.Nat.{ℕ}
@@ -8,7 +8,7 @@ use lib.ListN.{length}
 use borrow.Author.Tests.{eq-eqb, ne_eqb}
 use Rattle.reports.specs.declared.Report.{Report}
 use Rattle.reports.specs.Reports.{report}
-use Rattle.bytearrays.specs.Bytes.{bytes_of, one_ragged}
+use Rattle.words.specs.Bytes.{bytes_of, one_ragged}
 use Rattle.bytearrays.specs.Calls.{or_five, bytes_reported, bytes_afterwards}
 
 -- ---- what is reported
@@ -27,14 +27,6 @@ bytes_reported_lem before on_words xs out y = go (one_ragged (length xs) (length
     go : (b : Bool) → (b ≡ true → y ≡ refused) → (b ≡ false → y ≡ on_words) → y ≡ cond b refused on_words
     go true some none = some refl
     go false some none = none refl
-
--- a 5 that comes after other refusals stands in its place
-pub five_in_place : (before later : ℕ) → later ≡ 5 → cond (not (eqb before 0)) before later ≡ or_five before
-five_in_place before later five = go (eqb before 0)
-  where
-    go : (b : Bool) → cond (not b) before later ≡ cond b 5 before
-    go true = five
-    go false = refl
 
 -- ---- what the output holds, by the report
 

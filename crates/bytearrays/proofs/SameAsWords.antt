@@ -20,11 +20,13 @@ use Rattle.codearrays.specs.Codes.{pack_number, pack_code, pack_reported, pack_a
 use Rattle.codearrays.proofs.Outcomes.{refused_leaves}
 use Rattle.arrays.specs.Rounding.{refusal_of, reported, afterwards}
 use Rattle.arrays.proofs.Outcomes.{refused-afterwards}
-use Rattle.bytearrays.specs.Bytes.{bytes_of, word_at, words_of, ragged, one_ragged}
+use Rattle.words.specs.Bytes.{bytes_of, word_at, words_of, ragged, one_ragged}
+use Rattle.words.specs.Facts.{AllBelow}
 use Rattle.bytearrays.specs.Calls.{or_five, bytes_reported, bytes_afterwards, round_bytes_reported, round_bytes_afterwards, pack_bytes_reported, pack_bytes_afterwards, unpack_bytes_reported, unpack_bytes_afterwards}
-use Rattle.bytearrays.specs.Facts.{AllBelow, RoundsAsWords, PacksAsWords, UnpacksAsWords, RaggedNotRounded, RaggedNotPacked, RaggedNotUnpacked, whole_words, SpareBytesUnread}
+use Rattle.bytearrays.specs.Facts.{RoundsAsWords, PacksAsWords, UnpacksAsWords, RaggedNotRounded, RaggedNotPacked, RaggedNotUnpacked, whole_words, SpareBytesUnread}
 use Rattle.bytearrays.proofs.Outcomes.{refused-kept}
-use Rattle.bytearrays.proofs.RoundTrips.{bytes_of_words}
+use Rattle.bytearrays.proofs.Ragged.{or_five-some}
+use Rattle.words.proofs.RoundTrips.{bytes_of_words}
 
 -- ---- any call
 
@@ -42,7 +44,7 @@ module _ (before : ℕ) (on_words : Report) (leaves xs out : List ℕ) where
 
   module _ (inputs : ragged (length xs) ≡ false) (outputs : ragged (length out) ≡ false) where
     -- where none is, it is what the call on words reports
-    whole_reported : answer ≡ on_words
+    pub whole_reported : answer ≡ on_words
     unfolding bytes_reported
     whole_reported = ap reported_where (ap₂ (λ (b c : Bool). b || c) inputs outputs)
 
@@ -65,18 +67,10 @@ module _ (before : ℕ) (on_words : Report) (leaves xs out : List ℕ) where
     unfolding bytes_reported
     ragged-reported = ap reported_where uneven
 
-    -- which is a refusal
-    some_refused : or_five before ≡ 0 → ⊥
-    some_refused = go (eqb before 0) refl
-      where
-        go : (b : Bool) → eqb before 0 ≡ b → cond b 5 before ≡ 0 → ⊥
-        go true e none = absurd (omega arith)
-        go false e none = eqb-false before 0 e none
-
     -- so that the output is left as it was
     ragged_call : (answer ≡ report (or_five before)) × (left_by answer ≡ out)
     ragged_call =
-        (ragged-reported, sym (refused-kept answer leaves out (report (or_five before)) (sym ragged-reported) some_refused))
+        (ragged-reported, sym (refused-kept answer leaves out (report (or_five before)) (sym ragged-reported) (or_five-some before)))
 
 -- ---- rounding
 

@@ -8,13 +8,17 @@ use Rattle.reports.specs.declared.Report.{Report}
 use Rattle.reports.specs.Reports.{report}
 use Rattle.codearrays.specs.Codes.{pack_reported, pack_afterwards, unpack_reported, unpack_afterwards}
 use Rattle.arrays.specs.Rounding.{reported, afterwards}
-use Rattle.bytearrays.specs.Bytes.{bytes_of, words_of, one_ragged}
+use Rattle.words.specs.Bytes.{bytes_of, words_of, one_ragged}
 
 -- ---- a call on bytes, by the same call on the whole words among them
 
 -- what is refused before the lengths are looked at, and 5 where nothing is
 abbrev pub or_five : ℕ → ℕ
 or_five before = cond (eqb before 0) 5 before
+
+-- what is refused of two lengths of which one is ragged, and 0 where neither is
+abbrev pub ragged_refusal : ℕ → ℕ → ℕ → ℕ
+ragged_refusal before inputs outputs = cond (one_ragged inputs outputs) (or_five before) 0
 
 -- What is reported. An input or an output of a ragged length is refused as 5, in 5's place: what is refused before still comes
 -- first. Otherwise it is what the call on words reports.

@@ -1,40 +1,14 @@
--- What holds of words among bytes, and of every call on bytes (document 01, "What the product covers"), as whole statements.
--- Assumes nothing.
-use Rattle.std.specs.Prelude.{true, false, List, ◌≡◌, ℕ, ◌*◌, ◌/◌, ◌^◌, ◌<◌, length, get_or, take}
+-- What holds of every call on bytes (document 01, "What the product covers"), as whole statements. Assumes nothing.
+use Rattle.std.specs.Prelude.{true, false, List, ◌≡◌, ℕ, ◌*◌, ◌/◌, length, take}
 use Rattle.grid.specs.declared.Format.{Format}
 use Rattle.rounding.specs.Calls.{refusal}
 use Rattle.layouts.specs.Calls.{format_refusal}
 use Rattle.reports.specs.Reports.{report}
 use Rattle.codearrays.specs.Codes.{pack_reported, pack_afterwards, unpack_reported, unpack_afterwards}
 use Rattle.arrays.specs.Rounding.{reported, afterwards}
-use Rattle.bytearrays.specs.Bytes.{bytes_of, words_of, ragged, one_ragged}
+use Rattle.words.specs.Bytes.{bytes_of, words_of, ragged, one_ragged}
+use Rattle.words.specs.Facts.{AllBelow}
 use Rattle.bytearrays.specs.Calls.{or_five, round_bytes_reported, round_bytes_afterwards, pack_bytes_reported, pack_bytes_afterwards, unpack_bytes_reported, unpack_bytes_afterwards}
-
--- every entry of a list is below n
-abbrev pub AllBelow : ℕ → List ℕ → Type 0
-AllBelow n l = (i : ℕ) → i < length l → get_or l i 0 < n
-
--- ---- words and bytes
-
--- a word has eight bytes
-abbrev pub EightBytesAWord : Type 0
-EightBytesAWord = (ws : List ℕ) → length (bytes_of ws) ≡ 8 * length ws
-
--- what is taken out of words is bytes
-abbrev pub BytesAreBytes : Type 0
-BytesAreBytes = (ws : List ℕ) → AllBelow 256 (bytes_of ws)
-
--- and what bytes make is words
-abbrev pub WordsAreWords : Type 0
-WordsAreWords = (bs : List ℕ) → AllBelow 256 bs → AllBelow (2 ^ 64) (words_of bs)
-
--- the words among the bytes of words are those words
-abbrev pub WordsOfBytes : Type 0
-WordsOfBytes = (ws : List ℕ) → AllBelow (2 ^ 64) ws → words_of (bytes_of ws) ≡ ws
-
--- and the bytes of the words among bytes are those bytes, where none is left over
-abbrev pub BytesOfWords : Type 0
-BytesOfWords = (bs : List ℕ) → AllBelow 256 bs → ragged (length bs) ≡ false → bytes_of (words_of bs) ≡ bs
 
 -- ---- a call on bytes is the call on words: it reports the same, and leaves the bytes of the words that the other leaves, where
 -- neither the input nor the output is ragged

@@ -1,4 +1,4 @@
--- What the format and the lengths refuse, as the code comes to it. Assumes nothing.
+-- What the format and the lengths refuse. Assumes nothing.
 use mathlib.Core.Path.{◌≡◌}
 use Prim.Native.Nat.{ℕ}
 use borrow.Author.Tests.{eq-eqb, ne_eqb}
@@ -9,11 +9,6 @@ module _ (number inputs outputs : ℕ) where
   unfolding then_lengths
   format_refused some = simp (ne_eqb number 0 some)
 
-  module _ (none : number ≡ 0) where
-    pub accepts_output : outputs ≡ inputs → 0 ≡ then_lengths number inputs outputs
-    unfolding then_lengths
-    accepts_output same = simp (eq-eqb number 0 none, eq-eqb outputs inputs same)
-
-    pub refuses_output : (outputs ≡ inputs → ⊥) → 5 ≡ then_lengths number inputs outputs
-    unfolding then_lengths
-    refuses_output apart = simp (eq-eqb number 0 none, ne_eqb outputs inputs apart)
+  pub accepts_output : number ≡ 0 → outputs ≡ inputs → 0 ≡ then_lengths number inputs outputs
+  unfolding then_lengths
+  accepts_output none same = simp (eq-eqb number 0 none, eq-eqb outputs inputs same)

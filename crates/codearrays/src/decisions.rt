@@ -1,17 +1,33 @@
-// What is decided before any entry is looked at.
+// What is decided before any word is looked at.
 ghost use Rattle.std.specs.Prelude.{◌≡◌};
+ghost use Rattle.refusals.specs.Refusals.{refusal_number};
 ghost use Rattle.codearrays.specs.Codes.{then_lengths};
 
-// The number of the first refusal that packing or unpacking meets before it looks at an entry, and 0
-// where it meets none: that of the format, then 5 for the output's length.
+use refusals::Refusal;
+
+// Refused where the output is not as long as the input.
+#[tactic(auto, unfolding(crate::specs::Codes::then_lengths))]
+pub(crate) fn check_lengths(inputs: usize, outputs: usize) -> Result<(), Refusal>
+    ensures { refusal_number result ≡ then_lengths 0 inputs outputs }
+{
+    if outputs == inputs {
+        return Ok(());
+    }
+    Err(Refusal::OutputLength)
+}
+
+// The number of the first refusal that packing or unpacking meets before it looks at a word, and 0 where it
+// meets none: that of what is refused already, then 5 for the output's length. It goes by numbers, since it is
+// promised for every number that a caller may have, also for one that no refusal has.
+#[tactic(auto, unfolding(crate::specs::Codes::then_lengths))]
 pub fn codes_refusal(number: u64, inputs: usize, outputs: usize) -> u64
     ensures { result ≡ then_lengths number inputs outputs }
 {
     if number != 0 {
         return number;
     }
-    if outputs == inputs {
-        return 0;
+    match check_lengths(inputs, outputs) {
+        Ok(()) => 0,
+        Err(refusal) => refusal.number(),
     }
-    5
 }

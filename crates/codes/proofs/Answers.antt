@@ -13,11 +13,9 @@ use Rattle.grid.specs.declared.Format.{Format}
 use Rattle.layouts.specs.Fields.{HasCode, width}
 use Rattle.layouts.specs.Calls.{format_refusal}
 use Rattle.layouts.proofs.Refusals.{accepted-has_code, has_code-accepted, format_refusal-most}
-use Rattle.bylayout.specs.declared.Packed.{Packed}
-use Rattle.bylayout.specs.declared.Unpacked.{Unpacked}
 use Rattle.codes.specs.Unpacking.{pattern_of, no_number}
 use Rattle.codes.specs.Packing.{code_of, in_format}
-use Rattle.bylayout.specs.Answers.{as_code, no_code, as_pattern, no_pattern}
+use Rattle.bylayout.specs.Answers.{Packed, Unpacked, as_code, no_code, as_pattern, no_pattern}
 use Rattle.codes.specs.Calls.{packed, unpacked, pack_one, unpack_one}
 
 -- ---- packing

@@ -11,9 +11,8 @@ use Rattle.patterns.proofs.Values.{val_increasing}
 use Rattle.patterns.proofs.Signs.{magnitude_is}
 use Rattle.grid.specs.declared.Format.{Format}
 use Rattle.layouts.specs.Fields.{HasCode, width, negative}
-use Rattle.bylayout.specs.declared.Unpacked.{Unpacked}
 use Rattle.codes.specs.Packing.{infinity_fields}
-use Rattle.bylayout.specs.Answers.{as_pattern}
+use Rattle.bylayout.specs.Answers.{Unpacked, as_pattern}
 use Rattle.codes.specs.Calls.{unpack_one}
 use Rattle.codes.specs.Facts.{CodesInOrder, NumbersInOrder}
 use Rattle.codes.proofs.Worth.{worth_of, worth_increasing}

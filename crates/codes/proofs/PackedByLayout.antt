@@ -27,9 +27,8 @@ use Rattle.grid.proofs.Candidates.{top_short}
 use Rattle.layouts.specs.Fields.{HasCode, width}
 use Rattle.layouts.specs.Layouts.{layout}
 use Rattle.layouts.proofs.Fields.{width_fits}
-use Rattle.bylayout.specs.declared.Packed.{Packed}
 use Rattle.codes.specs.Packing.{fields_of, infinity_fields, nan_fields, fields_by, code_of, has_by, in_format}
-use Rattle.bylayout.specs.Answers.{as_code, no_code}
+use Rattle.bylayout.specs.Answers.{Packed, as_code, no_code}
 use Rattle.bylayout.specs.ByLayout.{depth, held_by, finite_fields, code_by, has_as, fields_as, packed_by}
 use Rattle.bylayout.proofs.Packings.{held_small, fields_small, fields_normal}
 use Rattle.codes.specs.Calls.{packed}

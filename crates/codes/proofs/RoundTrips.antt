@@ -15,10 +15,8 @@ use Rattle.grid.specs.declared.Format.{Format}
 use Rattle.layouts.specs.Fields.{HasCode, width, negative}
 use Rattle.layouts.proofs.Splits.{parts_are_code}
 use Rattle.layouts.proofs.Refusals.{accepted-has_code}
-use Rattle.bylayout.specs.declared.Packed.{Packed}
-use Rattle.bylayout.specs.declared.Unpacked.{Unpacked}
 use Rattle.codes.specs.Packing.{infinity_fields, nan_fields, code_of, in_format}
-use Rattle.bylayout.specs.Answers.{as_code, no_code, as_pattern}
+use Rattle.bylayout.specs.Answers.{Packed, Unpacked, as_code, no_code, as_pattern}
 use Rattle.codes.specs.Calls.{pack_one, unpack_one}
 use Rattle.codes.specs.Facts.{UnpackPack, PackUnpack, NaNPackUnpack, RefusesWithoutCode, RefusesOnlyWithoutCode, CodesApart}
 use Rattle.codes.proofs.Numbers.{Number, row_below}

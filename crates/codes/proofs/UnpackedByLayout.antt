@@ -18,10 +18,9 @@ use Rattle.grid.proofs.Steps.{zeta-sub, zeta_not_above}
 use Rattle.layouts.specs.Fields.{HasCode, width}
 use Rattle.layouts.specs.Layouts.{layout}
 use Rattle.layouts.proofs.Splits.{exponent_is, fraction_is}
-use Rattle.bylayout.specs.declared.Unpacked.{Unpacked}
 use Rattle.codes.specs.Unpacking.{pattern_of, no_number}
 use Rattle.codes.specs.Packing.{infinity_fields}
-use Rattle.bylayout.specs.Answers.{as_pattern, no_pattern}
+use Rattle.bylayout.specs.Answers.{Unpacked, as_pattern, no_pattern}
 use Rattle.codes.specs.Calls.{unpacked}
 use Rattle.bylayout.specs.ByLayout.{small_pattern, magnitude_by, no_number_by, lifted, fields_in, unpacked_by}
 use Rattle.bylayout.proofs.Unpackings.{unpacks_small, unpacks_normal, unpacks-infinity, unpacks_nan}

@@ -3,9 +3,7 @@ use Rattle.std.specs.Prelude.{cond, ℕ, ◌^◌, leb, eqb}
 use Rattle.grid.specs.declared.Format.{Format}
 use Rattle.layouts.specs.Fields.{width}
 use Rattle.layouts.specs.Calls.{format_refusal}
-use Rattle.bylayout.specs.declared.Packed.{Packed}
-use Rattle.bylayout.specs.declared.Unpacked.{Unpacked}
-use Rattle.bylayout.specs.Answers.{as_code, no_code, as_pattern, no_pattern}
+use Rattle.bylayout.specs.Answers.{Packed, Unpacked, as_code, no_code, as_pattern, no_pattern}
 use Rattle.codes.specs.Unpacking.{pattern_of, no_number}
 use Rattle.codes.specs.Packing.{code_of, in_format}
 

@@ -6,5 +6,4 @@
 
 mod calls;
 
-pub use bylayout::{Packed, Unpacked};
 pub use calls::{pack_one, unpack_one};

@@ -1,9 +1,9 @@
 -- The range test and the four bounds that it stands for. Assumes nothing.
 use mathlib.Core.Bool.{Bool, true, false}
 use mathlib.Core.Path.{◌≡◌, refl, sym, ◌∙◌}
-use Prim.Native.Nat.{ℕ, ◌≤◌, ◌<◌}
+use Prim.Native.Nat.{ℕ, ◌≤◌}
 use lib.Dec.{leb}
-use borrow.Author.Tests.{leb-true, le-leb, lt-leb}
+use borrow.Author.Tests.{leb-true, le-leb}
 use Rattle.laws.proofs.Tests.{and_left, and_right, and_asked, and_failed}
 use Rattle.grid.specs.declared.Format.{Format}
 use Rattle.grid.specs.Formats.{between, precision_fits, exponent_fits, in_range, InRange}
@@ -13,10 +13,6 @@ module _ (least n most : ℕ) where
   pub between_asked : least ≤ n → leb n most ≡ between least n most
   unfolding between
   between_asked h = and_asked (leb least n) (leb n most) (le-leb least n h)
-
-  pub between_failed : n < least → leb least n ≡ between least n most
-  unfolding between
-  between_failed h = and_failed (leb least n) (leb n most) (lt-leb least n h)
 
   -- it says both bounds, and both bounds say it
   pub between_least : between least n most ≡ true → least ≤ n

@@ -2,9 +2,11 @@
 -- equation with the definition that the contract names, so two of them meet there. Assumes nothing.
 use mathlib.Core.Path.{sym, ◌∙◌}
 use Rattle.laws.specs.Promises.{OneAnswer}
+use Rattle.refusals.proofs.Apart.{refusal_numbers_apart}
 use Rattle.grid.proofs.formats.precision_fits.Reads as precision_fits
 use Rattle.grid.proofs.formats.exponent_fits.Reads as exponent_fits
 use Rattle.grid.proofs.formats.in_range.Reads as in_range
+use Rattle.grid.proofs.checks.check_range.Reads as check_range
 use Rattle.grid.proofs.formats.smallest_normal_pattern.Reads as smallest_normal_pattern
 use Rattle.grid.proofs.formats.zeta_exponent.Reads as zeta_exponent
 use Rattle.grid.proofs.formats.top_pattern.Reads as top_pattern
@@ -30,3 +32,6 @@ top_pattern_unique κs a y z s t p q = p ∙ sym q
 
 pub xmax_pattern_unique : OneAnswer xmax_pattern.Post
 xmax_pattern_unique κs a y z s t p q = p ∙ sym q
+
+pub check_range_unique : OneAnswer check_range.Post
+check_range_unique κs a y z s t p q = refusal_numbers_apart y z (p ∙ sym q)

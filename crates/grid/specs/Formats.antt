@@ -2,7 +2,7 @@
 -- crate's definitions only this file and Candidates.antt look at p and emax: what comes after goes by the names of this one.
 -- Magnitudes are in units of 2^-1074. Exponents are counted from there too: document 01's e is written e + 1074, so that
 -- emin = 1 - emax is 1075 - emax (decision 1). Assumes nothing.
-use Rattle.std.specs.Prelude.{Bool, cond, ◌&&◌, ℕ, ◌+◌, ◌-◌, ◌*◌, ◌^◌, ◌≤◌, leb, ltb}
+use Rattle.std.specs.Prelude.{Bool, cond, not, ◌&&◌, ℕ, ◌+◌, ◌-◌, ◌*◌, ◌^◌, ◌≤◌, leb, ltb}
 use Rattle.std.specs.Float.Ieee.{size}
 use Rattle.patterns.specs.Patterns.{pat}
 use Rattle.grid.specs.declared.Format.{Format}
@@ -23,7 +23,11 @@ exponent_fits emax = between 1 emax 1023
 unfoldable pub in_range : Format → Bool
 in_range f = precision_fits f.p && exponent_fits f.emax
 
--- the same, as the four bounds that a law may lean on
+-- the first refusal that applies to p and emax, 1 for p, then 2 for emax; and 0 where none does (document 01, "Refusal numbers")
+abbrev pub range_refusal : Format → ℕ
+range_refusal f = cond (not (precision_fits f.p)) 1 (cond (not (exponent_fits f.emax)) 2 0)
+
+-- in range, as the four bounds that a law may lean on
 pub record InRange (f : Format) : Type 0 where
   pub p_least : 2 ≤ f.p
   pub p_most : f.p ≤ 53

@@ -5,21 +5,24 @@ ghost use Rattle.grid.specs.Formats.{precision_fits, exponent_fits, in_range, sm
 use super::Format;
 use patterns::power_pattern;
 
-// What a format out of range gets for a pattern or an exponent.
+// What a format out of range gets for a pattern or an exponent. The calls promise it, and cannot fail: so it is
+// a number, and no Option (decision 7).
 const NO_LANDMARK: u64 = 0;
 
 // Whether p is from 2 to 53.
+#[tactic(auto, unfolding(crate::specs::Formats::precision_fits, crate::specs::Formats::between))]
 pub fn precision_fits(p: u64) -> bool
     ensures { result ≡ precision_fits p }
 {
-    2 <= p && p <= 53
+    (2..=53).contains(&p)
 }
 
 // Whether emax is from 1 to 1023.
+#[tactic(auto, unfolding(crate::specs::Formats::exponent_fits, crate::specs::Formats::between))]
 pub fn exponent_fits(emax: u64) -> bool
     ensures { result ≡ exponent_fits emax }
 {
-    1 <= emax && emax <= 1023
+    (1..=1023).contains(&emax)
 }
 
 // Whether the format's p and emax fit.

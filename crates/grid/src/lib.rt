@@ -2,8 +2,10 @@
 // specs/Lib.antt. Every function here answers for all inputs.
 #![tactic(auto)]
 
+mod checks;
 mod formats;
 
+pub use checks::check_range;
 pub use formats::{
     exponent_fits, in_range, precision_fits, smallest_normal_pattern, top_pattern, xmax_pattern,
     zeta_exponent,

@@ -3,12 +3,12 @@
 use mathlib.Core.Path.{sym, ◌∙◌}
 use Rattle.laws.specs.Promises.{OneAnswer, OneOutcome}
 use Rattle.host.proofs.formats.wharfgrain_known.Reads as wharfgrain_known
-use Rattle.host.proofs.words.wharfgrain_round.Reads as wharfgrain_round
-use Rattle.host.proofs.words.wharfgrain_pack.Reads as wharfgrain_pack
-use Rattle.host.proofs.words.wharfgrain_unpack.Reads as wharfgrain_unpack
-use Rattle.host.proofs.bytes.wharfgrain_round_bytes.Reads as wharfgrain_round_bytes
-use Rattle.host.proofs.bytes.wharfgrain_pack_bytes.Reads as wharfgrain_pack_bytes
-use Rattle.host.proofs.bytes.wharfgrain_unpack_bytes.Reads as wharfgrain_unpack_bytes
+use Rattle.host.proofs.on_words.wharfgrain_round.Reads as wharfgrain_round
+use Rattle.host.proofs.on_words.wharfgrain_pack.Reads as wharfgrain_pack
+use Rattle.host.proofs.on_words.wharfgrain_unpack.Reads as wharfgrain_unpack
+use Rattle.host.proofs.on_bytes.wharfgrain_round_bytes.Reads as wharfgrain_round_bytes
+use Rattle.host.proofs.on_bytes.wharfgrain_pack_bytes.Reads as wharfgrain_pack_bytes
+use Rattle.host.proofs.on_bytes.wharfgrain_unpack_bytes.Reads as wharfgrain_unpack_bytes
 
 pub wharfgrain_known_unique : OneAnswer wharfgrain_known.Post
 wharfgrain_known_unique κs a y z s t p q = p ∙ sym q

@@ -5,13 +5,13 @@
 // inputs, arrays of any lengths among them.
 #![tactic(auto)]
 
-mod bytes;
 mod formats;
-mod words;
+mod on_bytes;
+mod on_words;
 
-pub use bytes::{wharfgrain_pack_bytes, wharfgrain_round_bytes, wharfgrain_unpack_bytes};
 pub use formats::wharfgrain_known;
-pub use words::{wharfgrain_pack, wharfgrain_round, wharfgrain_unpack};
+pub use on_bytes::{wharfgrain_pack_bytes, wharfgrain_round_bytes, wharfgrain_unpack_bytes};
+pub use on_words::{wharfgrain_pack, wharfgrain_round, wharfgrain_unpack};
 
 // A known format as C has it: number 0 and the format, or number 11 and zeros.
 #[repr(C)]

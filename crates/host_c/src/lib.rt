@@ -4,6 +4,6 @@
 // host's specs/Lib.antt. Every function answers for all inputs, arrays of any lengths among them.
 #![tactic(auto)]
 
-mod bytes;
 mod formats;
-mod words;
+mod on_bytes;
+mod on_words;

@@ -6,9 +6,9 @@ use lib.ListN.{take, drop, set}
 use Rattle.lines.specs.Numerals.{digit, digits, decimals}
 use Rattle.lines.specs.Lines.{fits, line}
 use Rattle.lines.specs.Reading.{worth, run, value, begins, digits_read, value_read, read_value, behind, read_line}
-use Rattle.jobs.specs.declared.Reading.TheVariants.{Sound, Bad}
+use Rattle.std.specs.Prelude.{Ok}
 use Rattle.jobs.specs.Layout.{Job, has_words, rule_at, lines_from, in_turn, values_of, text_of}
-use Rattle.jobs.specs.Reading.{read_from, place_lines, heads_in, lines_in, places_in, values_in, used_in, reading, job_of}
+use Rattle.jobs.specs.Reading.{read_from, place_lines, heads_in, lines_in, places_in, values_in, used_in, bad_at, reading, job_of}
 
 -- document 01's job
 abbrev document_job : Job
@@ -44,7 +44,7 @@ unfolding text_of values_of in_turn has_words lines_from rule_at line digits dig
 text = refl
 
 -- it is read as that job
-sound : reading document_text ≡ Sound
+sound : reading document_text ≡ Ok tt
 unfolding reading values_in used_in heads_in places_in lines_in place_lines read_from has_words rule_at read_line behind begins read_value value_read digits_read value run worth fits decimals
 sound = refl
 
@@ -65,7 +65,7 @@ bad :
     ∷ take 90 document_text
     ∷ (document_text ++ (10 ∷ []))
     ∷ [])
-    ≡ Bad 1 ∷ Bad 1 ∷ Bad 1 ∷ Bad 8 ∷ Bad 10 ∷ Bad 10 ∷ Bad 10 ∷ Bad 11 ∷ []
+    ≡ bad_at 1 ∷ bad_at 1 ∷ bad_at 1 ∷ bad_at 8 ∷ bad_at 10 ∷ bad_at 10 ∷ bad_at 10 ∷ bad_at 11 ∷ []
 unfolding reading values_in used_in heads_in places_in lines_in place_lines read_from has_words rule_at read_line behind begins read_value value_read digits_read value run worth fits decimals
 bad = refl
 
@@ -91,7 +91,7 @@ six_lines_lem :
     ∷ six_lines (49 ∷ []) (55 ∷ 13 ∷ []) (48 ∷ [])
     ∷ (six_lines (49 ∷ []) (55 ∷ []) (48 ∷ []) ++ (0 ∷ []))
     ∷ [])
-    ≡ Sound ∷ Sound ∷ Sound ∷ Bad 3 ∷ Bad 6 ∷ Bad 4 ∷ Bad 7 ∷ []
+    ≡ Ok tt ∷ Ok tt ∷ Ok tt ∷ bad_at 3 ∷ bad_at 6 ∷ bad_at 4 ∷ bad_at 7 ∷ []
 unfolding reading values_in used_in heads_in places_in lines_in place_lines read_from has_words rule_at read_line behind begins read_value value_read digits_read value run worth fits decimals
 six_lines_lem = refl
 
@@ -99,6 +99,6 @@ six_lines_lem = refl
 no_word_above_8 :
     reading
     (six_lines (49 ∷ []) (57 ∷ 57 ∷ 57 ∷ 57 ∷ []) (49 ∷ []) ++ drop 33 (take 71 document_text))
-    ≡ Bad 8
+    ≡ bad_at 8
 unfolding reading values_in used_in heads_in places_in lines_in place_lines read_from has_words rule_at read_line behind begins read_value value_read digits_read value run worth fits decimals
 no_word_above_8 = refl

@@ -9,8 +9,8 @@ use native.Mathlib.Omega.{arith}
 use lib.ListN.{length, take}
 use lib.Seq.{take_all, length-take-le}
 use Rattle.laws.proofs.Orders.{below_or_not}
-use Rattle.jobs.specs.declared.Reading.{Reading}
-use Rattle.jobs.specs.declared.Reading.TheVariants.{Sound, Bad}
+use Rattle.std.specs.Prelude.{Result, Ok, Err}
+use Rattle.jobs.specs.declared.BadLine.{BadLine}
 use Rattle.jobs.specs.Layout.{Job, InRange, text_of}
 use Rattle.jobs.specs.BadLines.{first_lines, GoodLines, FirstBad}
 use Rattle.jobs.specs.Reading.{values_in, reading, job_of}
@@ -66,11 +66,11 @@ module _ (s : List ℕ) (m : ℕ) (enough : longest_text < m) where
 pub long_texts_are_cut : LongTextsAreCut
 long_texts_are_cut s m enough = go (below_or_not m (length s))
   where
-    by_reading : m < length s → (a : Reading) → reading s ≡ a → reading (take m s) ≡ reading s
-    by_reading long Sound e =
+    by_reading : m < length s → (a : Result Unit BadLine) → reading s ≡ a → reading (take m s) ≡ reading s
+    by_reading long (Ok _) e =
         absurd (long_is_no_job s (omega arith) (job_of (values_in s)) (read_are_jobs s e).0 (read_are_jobs s e).1)
-    by_reading long (Bad k) e =
-        first_bad_is_named (take m s) k (cut_first_bad s m enough (le_of_lt long) k (named_is_first_bad s k e)) ∙ sym e
+    by_reading long (Err b) e =
+        first_bad_is_named (take m s) b.line (cut_first_bad s m enough (le_of_lt long) b.line (named_is_first_bad s b.line e)) ∙ sym e
 
     go : (m < length s) ⊎ (length s ≤ m) → reading (take m s) ≡ reading s
     go (inl long) = by_reading long (reading s) refl

@@ -4,18 +4,18 @@ use mathlib.Core.Path.{◌≡◌, refl, ap, ◌∙◌}
 use Prim.Native.Nat.{ℕ}
 use native.Mathlib.Omega.{arith}
 use lib.ListN.{length}
-use Rattle.jobs.specs.declared.Reading.{Reading}
-use Rattle.jobs.specs.declared.Reading.TheVariants.{Sound, Bad}
+use Rattle.std.specs.Prelude.{Result, Ok, Err}
+use Rattle.jobs.specs.declared.BadLine.{BadLine}
 use Rattle.jobs.specs.Layout.{Job, InRange, text_of}
 use Rattle.jobs.specs.BadLines.{GoodLines}
-use Rattle.jobs.specs.Reading.{values_in, reading, job_of}
+use Rattle.jobs.specs.Reading.{values_in, bad_at, reading, job_of}
 use Rattle.jobs.specs.Facts.{JobsAreRead, ReadAreJobs, NamedIsFirstBad, FirstBadIsNamed}
 use Rattle.jobs.proofs.Readings.{named}
 use Rattle.jobs.proofs.Jobs.{read_as, read_sound, sound_text, read_range}
 use Rattle.jobs.proofs.GoodLines.{bad_once, read_good, good_read}
 
 -- no text is sound and has a bad line
-never_both : (r : Reading) (k : ℕ) → r ≡ Sound → r ≡ Bad k → ⊥
+never_both : (r : Result Unit BadLine) (k : ℕ) → r ≡ Ok tt → r ≡ bad_at k → ⊥
 never_both r k sound bad = let z : ◌≡◌ {A = ℕ} 0 1 = cc in omega arith
 
 -- nothing sound is refused
@@ -43,6 +43,6 @@ named_is_first_bad s k bad =
 pub first_bad_is_named : FirstBadIsNamed
 first_bad_is_named s k first = go (reading s) refl
   where
-    go : (r : Reading) → reading s ≡ r → r ≡ Bad k
-    go Sound sound = absurd (first.no_job (job_of (values_in s)) (read_are_jobs s sound).0 (read_are_jobs s sound).1)
-    go (Bad m) bad = ap Bad (bad_once s m k (named_is_first_bad s m bad) first)
+    go : (r : Result Unit BadLine) → reading s ≡ r → r ≡ bad_at k
+    go (Ok _) sound = absurd (first.no_job (job_of (values_in s)) (read_are_jobs s sound).0 (read_are_jobs s sound).1)
+    go (Err b) bad = ap bad_at (bad_once s b.line k (named_is_first_bad s b.line bad) first)

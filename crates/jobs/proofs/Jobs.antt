@@ -9,7 +9,7 @@ use native.Mathlib.Omega.{arith}
 use lib.ListN.{length, get_or, take, drop}
 use lib.Seq.{length-take-le, take_all, take-length, take-take, get_or-take, drop-length}
 use Rattle.laws.proofs.Orders.{below_or_not}
-use Rattle.jobs.specs.declared.Reading.TheVariants.{Sound}
+use Rattle.std.specs.Prelude.{Ok}
 use Rattle.jobs.specs.Layout.{Job, InRange, has_words, lines_from, values_of, text_of}
 use Rattle.jobs.specs.Reading.{place_lines, words_in, lines_in, values_in, reading, job_of}
 use Rattle.jobs.proofs.Rows.{Fit, rows_split, fit_take}
@@ -107,7 +107,7 @@ pub read_as : (j : Job) → InRange j → job_of (values_in (text_of j)) ≡ j
 read_as j range = ap job_of (text_values j range) ∙ job_of_values j range
 
 -- it is sound
-pub read_sound : (j : Job) → InRange j → reading (text_of j) ≡ Sound
+pub read_sound : (j : Job) → InRange j → reading (text_of j) ≡ Ok tt
 unfolding text_of values_of
 read_sound j range =
     sound_of (text_of j)
@@ -118,7 +118,7 @@ read_sound j range =
     values = text_values j range
 
 -- a text that is sound is the text of the job with its values,
-pub sound_text : (s : List ℕ) → reading s ≡ Sound → s ≡ text_of (job_of (values_in s))
+pub sound_text : (s : List ℕ) → reading s ≡ Ok tt → s ≡ text_of (job_of (values_in s))
 unfolding text_of job_of
 sound_text s sound =
     values_written s

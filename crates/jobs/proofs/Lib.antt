@@ -15,7 +15,6 @@ pub mod Facts
 pub mod Sizes
 pub mod Starts
 pub mod Cuts
-pub mod Places
 pub mod Scans
 pub mod Stored
 pub mod Outcomes

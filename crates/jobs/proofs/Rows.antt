@@ -7,8 +7,8 @@ use native.Mathlib.Nat.{le_of_suc-le-suc, not-suc-le-zero, zero-add, add-zero, s
 use native.Mathlib.Omega.{arith}
 use lib.ListN.{length, take, drop, length-append}
 use lib.Seq.{drop-append_seam, drop-drop}
+use Rattle.std.specs.Prelude.{Option, Some, None}
 use Rattle.lines.specs.declared.Found.{Found}
-use Rattle.lines.specs.declared.Found.TheVariants.{Value, Nothing}
 use Rattle.lines.specs.Lines.{fits, line}
 use Rattle.lines.proofs.Facts.{written_is_read, read_fits, read_is_written}
 use Rattle.jobs.specs.Layout.{rule_at, lines_from}
@@ -57,16 +57,16 @@ unfolding read_from
 rows_within words i zero s = zero-le
 rows_within words i (suc m) s = go (line_at words i s) (rows_within words (suc i) m)
   where
-    go : (f : Found) → ((t : List ℕ) → length (read_from words (suc i) m t).values ≤ m) → length (and_then f s (read_from words (suc i) m)).values ≤ suc m
-    go (Value v used) rest = suc-le-suc (rest (drop used s))
-    go Nothing rest = zero-le
+    go : (f : Option Found) → ((t : List ℕ) → length (read_from words (suc i) m t).values ≤ m) → length (and_then f s (read_from words (suc i) m)).values ≤ suc m
+    go (Some f) rest = suc-le-suc (rest (drop f.used s))
+    go None rest = zero-le
 
 -- a line that is there is read, and then what is behind it
 row_read : (words : Bool) (i m v : ℕ) (rest : List ℕ) → fits (rule_at words i).form v ≡ true
     → read_from words i (suc m) (line_of words i v ++ rest) ≡ line_then v (length (line_of words i v)) (read_from words (suc i) m rest)
 unfolding read_from
 row_read words i m v rest fit =
-    ap (λ (f : Found). and_then f (line_of words i v ++ rest) (read_from words (suc i) m))
+    ap (λ (f : Option Found). and_then f (line_of words i v ++ rest) (read_from words (suc i) m))
     (written_is_read (rule_at words i).key (rule_at words i).form v rest fit)
     ∙ ap (λ (t : List ℕ). line_then v (length (line_of words i v)) (read_from words (suc i) m t)) (drop-append_seam (line_of words i v) rest)
 
@@ -88,10 +88,10 @@ unfolding read_from
 rows_fit words i zero s = tt
 rows_fit words i (suc m) s = go (line_at words i s) refl (rows_fit words (suc i) m)
   where
-    go : (f : Found) → line_at words i s ≡ f → ((t : List ℕ) → Fit words (suc i) (read_from words (suc i) m t).values)
+    go : (f : Option Found) → line_at words i s ≡ f → ((t : List ℕ) → Fit words (suc i) (read_from words (suc i) m t).values)
         → Fit words i (and_then f s (read_from words (suc i) m)).values
-    go (Value v used) e rest = (read_fits (rule_at words i).key (rule_at words i).form s v used e, rest (drop used s))
-    go Nothing e rest = tt
+    go (Some f) e rest = (read_fits (rule_at words i).key (rule_at words i).form s f.value f.used e, rest (drop f.used s))
+    go None e rest = tt
 
 -- the bytes that are counted are those of the lines
 pub rows_used : (words : Bool) (i m : ℕ) (s : List ℕ) → (read_from words i m s).used ≡ length (lines_from words i (read_from words i m s).values)
@@ -99,15 +99,15 @@ unfolding read_from lines_from
 rows_used words i zero s = refl
 rows_used words i (suc m) s = go (line_at words i s) refl (rows_used words (suc i) m)
   where
-    go : (f : Found) → line_at words i s ≡ f
+    go : (f : Option Found) → line_at words i s ≡ f
         → ((t : List ℕ) → (read_from words (suc i) m t).used ≡ length (lines_from words (suc i) (read_from words (suc i) m t).values))
         → (and_then f s (read_from words (suc i) m)).used ≡ length (lines_from words i (and_then f s (read_from words (suc i) m)).values)
-    go (Value v used) e rest =
-        ap (λ (n : ℕ). n + (read_from words (suc i) m (drop used s)).used)
-        (read_is_written (rule_at words i).key (rule_at words i).form s v used e).1
-        ∙ ap (λ (n : ℕ). length (line_of words i v) + n) (rest (drop used s))
-        ∙ sym (length-append (line_of words i v) (lines_from words (suc i) (read_from words (suc i) m (drop used s)).values))
-    go Nothing e rest = refl
+    go (Some f) e rest =
+        ap (λ (n : ℕ). n + (read_from words (suc i) m (drop f.used s)).used)
+        (read_is_written (rule_at words i).key (rule_at words i).form s f.value f.used e).1
+        ∙ ap (λ (n : ℕ). length (line_of words i f.value) + n) (rest (drop f.used s))
+        ∙ sym (length-append (line_of words i f.value) (lines_from words (suc i) (read_from words (suc i) m (drop f.used s)).values))
+    go None e rest = refl
 
 -- the text begins with the lines that are read
 pub rows_written : (words : Bool) (i m : ℕ) (s : List ℕ) → s ≡ lines_from words i (read_from words i m s).values ++ drop (read_from words i m s).used s
@@ -115,16 +115,26 @@ unfolding read_from lines_from
 rows_written words i zero s = refl
 rows_written words i (suc m) s = go (line_at words i s) refl (rows_written words (suc i) m)
   where
-    go : (f : Found) → line_at words i s ≡ f
+    go : (f : Option Found) → line_at words i s ≡ f
         → ((t : List ℕ) → t ≡ lines_from words (suc i) (read_from words (suc i) m t).values ++ drop (read_from words (suc i) m t).used t)
         → s ≡ lines_from words i (and_then f s (read_from words (suc i) m)).values ++ drop (and_then f s (read_from words (suc i) m)).used s
-    go (Value v used) e rest =
-        let more : Lines = read_from words (suc i) m (drop used s) in
-        (read_is_written (rule_at words i).key (rule_at words i).form s v used e).0
-        ∙ ap (λ (t : List ℕ). line_of words i v ++ t)
-        (rest (drop used s) ∙ ap (λ (t : List ℕ). lines_from words (suc i) more.values ++ t) (drop-drop more.used used s))
-        ∙ sym (append_assoc (line_of words i v) (lines_from words (suc i) more.values) (drop (used + more.used) s))
-    go Nothing e rest = refl
+    go (Some f) e rest =
+        let more : Lines = read_from words (suc i) m (drop f.used s) in
+        (read_is_written (rule_at words i).key (rule_at words i).form s f.value f.used e).0
+        ∙ ap (λ (t : List ℕ). line_of words i f.value ++ t)
+        (rest (drop f.used s) ∙ ap (λ (t : List ℕ). lines_from words (suc i) more.values ++ t) (drop-drop more.used f.used s))
+        ∙ sym (append_assoc (line_of words i f.value) (lines_from words (suc i) more.values) (drop (f.used + more.used) s))
+    go None e rest = refl
+
+-- so no more bytes are counted than it has
+pub rows_used_within : (words : Bool) (i m : ℕ) (s : List ℕ) → (read_from words i m s).used ≤ length s
+rows_used_within words i m s =
+    omega (
+      arith,
+      rows_used words i m s,
+      ap length (rows_written words i m s)
+          ∙ length-append (lines_from words i (read_from words i m s).values) (drop (read_from words i m s).used s),
+    )
 
 -- ---- some lines, and then more
 
@@ -143,7 +153,7 @@ rows_more words i zero n s none =
 rows_more words i (suc m) n s none =
     ap (λ (k : ℕ). read_from words i k s) (suc-add m n) ∙ go (line_at words i s) none (rows_more words (suc i) m n)
   where
-    goal : Found → Type 0
+    goal : Option Found → Type 0
     goal f =
         and_then f s (read_from words (suc i) (m + n))
         ≡ both (and_then f s (read_from words (suc i) m)) (read_from words (i + suc m) n (drop (and_then f s (read_from words (suc i) m)).used s))
@@ -151,17 +161,17 @@ rows_more words i (suc m) n s none =
     next : suc i + m ≡ i + suc m
     next = omega arith
 
-    go : (f : Found) → (length (and_then f s (read_from words (suc i) m)).values < suc m → n ≡ 0)
+    go : (f : Option Found) → (length (and_then f s (read_from words (suc i) m)).values < suc m → n ≡ 0)
         → ((t : List ℕ) → (length (read_from words (suc i) m t).values < m → n ≡ 0)
         → read_from words (suc i) (m + n) t ≡ both (read_from words (suc i) m t) (read_from words (suc i + m) n (drop (read_from words (suc i) m t).used t)))
         → goal f
-    go (Value v used) stop rest =
-        let first : Lines = read_from words (suc i) m (drop used s) in
-        ap (λ (l : Lines). line_then v used l) (rest (drop used s) (λ h. stop (suc-le-suc h)))
-        ∙ ap (λ (k : ℕ). line_then v used (both first (read_from words k n (drop first.used (drop used s))))) next
-        ∙ ap (λ (t : List ℕ). line_then v used (both first (read_from words (i + suc m) n t))) (drop-drop first.used used s)
-        ∙ ap {B = Lines} (λ (k : ℕ). record { values = v ∷ (first.values ++ later.values); used = k }) (sym (add_assoc used first.used later.used))
+    go (Some f) stop rest =
+        let first : Lines = read_from words (suc i) m (drop f.used s) in
+        ap (λ (l : Lines). line_then f.value f.used l) (rest (drop f.used s) (λ h. stop (suc-le-suc h)))
+        ∙ ap (λ (k : ℕ). line_then f.value f.used (both first (read_from words k n (drop first.used (drop f.used s))))) next
+        ∙ ap (λ (t : List ℕ). line_then f.value f.used (both first (read_from words (i + suc m) n t))) (drop-drop first.used f.used s)
+        ∙ ap {B = Lines} (λ (k : ℕ). record { values = f.value ∷ (first.values ++ later.values); used = k }) (sym (add_assoc f.used first.used later.used))
       where
         later : Lines
-        later = read_from words (i + suc m) n (drop (used + (read_from words (suc i) m (drop used s)).used) s)
-    go Nothing stop rest = sym (ap (λ (k : ℕ). both no_lines (read_from words (i + suc m) k s)) (stop (suc-le-suc zero-le)))
+        later = read_from words (i + suc m) n (drop (f.used + (read_from words (suc i) m (drop f.used s)).used) s)
+    go None stop rest = sym (ap (λ (k : ℕ). both no_lines (read_from words (i + suc m) k s)) (stop (suc-le-suc zero-le)))

@@ -4,11 +4,11 @@ use mathlib.Core.Bool.{Bool, true, false, cond, ◌&&◌}
 use mathlib.Core.List.{List, [], ◌∷◌, ◌++◌}
 use mathlib.Core.Path.{◌≡◌, refl, ap, ap₂, ◌∙◌, fun_ext}
 use Prim.Native.Nat.{ℕ, zero, suc, ◌+◌, ◌%◌, ◌≤◌, ◌<◌}
-use native.Mathlib.Nat.{le_of_suc-le-suc, not-suc-le-zero}
 use native.Mathlib.Omega.{arith}
 use lib.Dec.{eqb}
 use lib.ListN.{length, get_or, get_or-eq_default}
 use borrow.Author.Tests.{eqb-true}
+use Rattle.std.proofs.lemmas.List.{get_or_default}
 use Rattle.laws.specs.Lists.{times}
 use Rattle.laws.specs.Tables.{every}
 use Rattle.laws.proofs.Tests.{and_left, and_right}
@@ -18,18 +18,12 @@ use Rattle.lines.specs.Reading.{read_line}
 use Rattle.jobs.specs.Layout.{Rule, heads, input, random_word, rule_at, lines_from}
 use Rattle.jobs.specs.Reading.{Lines, and_then, read_from}
 
--- within a list it does not matter what stands for a missing entry
-pub get_or_within : {A : Type 0} (l : List A) (i : ℕ) (d e : A) → i < length l → get_or l i d ≡ get_or l i e
-get_or_within [] i d e h = absurd (not-suc-le-zero h)
-get_or_within (x ∷ xs) zero d e h = refl
-get_or_within (x ∷ xs) (suc i) d e h = get_or_within xs i d e (le_of_suc-le-suc h)
-
 -- ---- the first six lines
 
 -- their rules ask for no words
 rule_head : (words : Bool) (i : ℕ) → i < 6 → rule_at words i ≡ rule_at false i
 unfolding rule_at
-rule_head words i h = get_or_within heads i (cond (words && eqb (i % 2) 1) random_word input) input h
+rule_head words i h = get_or_default heads i (cond (words && eqb (i % 2) 1) random_word input) input h
 
 -- so they are written alike,
 pub heads-written : (words : Bool) (i : ℕ) (vs : List ℕ) → i + length vs ≤ 6 → lines_from words i vs ≡ lines_from false i vs

@@ -1,7 +1,7 @@
 -- How long a job's text can be, and how many lines are read of any text. Assumes nothing.
 use mathlib.Core.Bool.{Bool, true, false, cond, ◌&&◌, ◌||◌, false≢true}
 use mathlib.Core.List.{List, [], ◌∷◌}
-use mathlib.Core.Path.{◌≡◌, refl, sym, ap, ◌∙◌}
+use mathlib.Core.Path.{◌≡◌, refl, ap, ◌∙◌}
 use Prim.Native.Nat.{ℕ, suc, ◌+◌, ◌*◌, ◌%◌, ◌≤◌}
 use native.Mathlib.Omega.{arith}
 use lib.Dec.{eqb}
@@ -10,8 +10,7 @@ use borrow.Author.Tests.{eqb-true}
 use Rattle.lines.specs.Numerals.{decimals}
 use Rattle.lines.specs.declared.Form.TheVariants.{Word}
 use Rattle.lines.specs.Lines.{line}
-use Rattle.lines.proofs.Bytes.{decimals-one}
-use Rattle.lines.proofs.Forms.{decimals-most, fits-number}
+use Rattle.lines.proofs.Forms.{decimals-one, decimals-most, fits-number}
 use Rattle.lines.proofs.Lengths.{length-line}
 use Rattle.jobs.specs.Layout.{Rule, has_words, input, random_word, rule_at, lines_from, in_turn, values_of, text_of}
 use Rattle.jobs.specs.Reading.{place_lines, words_in, lines_in, values_in}
@@ -52,7 +51,7 @@ length_text words p emax sub mode r n vs h =
       length_rows words 6 vs (omega arith),
       decimals-most p,
       decimals-most emax,
-      sym (decimals-one sub (omega arith)),
+      decimals-one sub (omega arith),
       decimals-most r,
       decimals-most n,
     ))
@@ -63,8 +62,8 @@ unfolding has_words
 words_mode_short mode has = go (eqb mode 7) refl (eqb mode 8) refl has
   where
     go : (seven : Bool) → eqb mode 7 ≡ seven → (eight : Bool) → eqb mode 8 ≡ eight → (seven || eight) ≡ true → decimals mode ≡ 1
-    go true e eight f has = sym (decimals-one mode (omega (arith, eqb-true mode 7 e)))
-    go false e true f has = sym (decimals-one mode (omega (arith, eqb-true mode 8 f)))
+    go true e eight f has = decimals-one mode (omega (arith, eqb-true mode 7 e))
+    go false e true f has = decimals-one mode (omega (arith, eqb-true mode 8 f))
     go false e false f has = absurd (false≢true has)
 
 -- no job's text is longer than is said

@@ -3,7 +3,7 @@
 -- of them meet there. Assumes nothing.
 use mathlib.Core.Path.{sym, ◌∙◌}
 use Rattle.laws.specs.Promises.{OneAnswer, OneOutcome}
-use Rattle.jobs.proofs.texts.has_words.Reads as has_words
+use Rattle.jobs.proofs.layout.has_words.Reads as has_words
 use Rattle.jobs.proofs.texts.read_job.Reads as read_job
 
 pub has_words_unique : OneAnswer has_words.Post

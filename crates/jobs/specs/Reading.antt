@@ -1,11 +1,9 @@
 -- How a job text is read: line after line, for as long as they are as laid out. Assumes nothing.
-use Rattle.std.specs.Prelude.{Bool, false, cond, ◌&&◌, List, [], ◌∷◌, ◌++◌, ℕ, zero, suc, ◌+◌, ◌*◌, eqb, length, get_or, drop}
+use Rattle.std.specs.Prelude.{Option, Some, None, Result, Ok, Err, Bool, false, cond, ◌&&◌, List, [], ◌∷◌, ◌++◌, ℕ, zero, suc, ◌+◌, ◌*◌, eqb, length, get_or, drop}
 use Rattle.laws.specs.Lists.{tab}
 use Rattle.lines.specs.declared.Found.{Found}
-use Rattle.lines.specs.declared.Found.TheVariants.{Value, Nothing}
 use Rattle.lines.specs.Reading.{read_line}
-use Rattle.jobs.specs.declared.Reading.{Reading}
-use Rattle.jobs.specs.declared.Reading.TheVariants.{Sound, Bad}
+use Rattle.jobs.specs.declared.BadLine.{BadLine}
 use Rattle.jobs.specs.Layout.{Job, has_words, rule_at}
 
 -- the values of the lines that were read, and how many bytes those lines take
@@ -17,12 +15,12 @@ abbrev pub no_lines : Lines
 no_lines = record { values = []; used = 0 }
 
 -- a line that was found at the start of a text, and what is read behind it; or nothing
-abbrev pub and_then : Found → List ℕ → (List ℕ → Lines) → Lines
-and_then (Value v used) s on = record { values = v ∷ (on (drop used s)).values; used = used + (on (drop used s)).used }
-and_then Nothing s on = no_lines
+abbrev pub and_then : Option Found → List ℕ → (List ℕ → Lines) → Lines
+and_then (Some f) s on = record { values = f.value ∷ (on (drop f.used s)).values; used = f.used + (on (drop f.used s)).used }
+and_then None s on = no_lines
 
 -- the line i that the text begins with
-abbrev pub line_at : Bool → ℕ → List ℕ → Found
+abbrev pub line_at : Bool → ℕ → List ℕ → Option Found
 line_at words i s = read_line (rule_at words i).key (rule_at words i).form s
 
 -- up to m lines from line i on, as far as they are as laid out
@@ -59,10 +57,14 @@ values_in s = (heads_in s).values ++ (places_in s).values
 unfoldable pub used_in : List ℕ → ℕ
 used_in s = (heads_in s).used + (places_in s).used
 
+-- what is read of a text whose first bad line is this, counted from 1; a sound one has none
+abbrev pub bad_at : ℕ → Result Unit BadLine
+bad_at k = Err (record { line = k })
+
 -- sound is a text of which every line is read, with nothing left; of any other the line behind those that are read is bad
-unfoldable pub reading : List ℕ → Reading
+unfoldable pub reading : List ℕ → Result Unit BadLine
 reading s =
-    cond (eqb (length (values_in s)) (6 + lines_in (heads_in s).values) && eqb (used_in s) (length s)) Sound (Bad (suc (length (values_in s))))
+    cond (eqb (length (values_in s)) (6 + lines_in (heads_in s).values) && eqb (used_in s) (length s)) (Ok tt) (bad_at (suc (length (values_in s))))
 
 -- the job with these values; 0 stands for what is missing
 unfoldable pub job_of : List ℕ → Job

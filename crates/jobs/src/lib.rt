@@ -2,14 +2,28 @@
 // specs/; start with specs/Lib.antt. Every callable function answers for all texts.
 #![tactic(auto)]
 
+ghost use Rattle.std.specs.Prelude.{◌≡◌, suc, ◌^◌, ◌<◌};
+
+mod layout;
 mod texts;
 
-pub use texts::{has_words, read_job};
+pub use layout::has_words;
+pub use texts::read_job;
 
-// What a text is: one that is laid out as a job text is, or one with a first bad line, which is counted
-// from 1.
+// The first line of a text that is not as a job text is laid out, counted from 1.
 #[derive(Clone, Copy)]
-pub enum Reading {
-    Sound,
-    Bad(u64),
+pub struct BadLine {
+    pub line: u64,
+}
+
+impl BadLine {
+    // The line behind so many good ones.
+    fn behind(lines: usize) -> BadLine
+        requires { lines < 2 ^ 63 }
+        ensures { result.line ≡ suc lines }
+    {
+        BadLine {
+            line: lines as u64 + 1,
+        }
+    }
 }

@@ -7,18 +7,19 @@ use native.Mathlib.Omega.{arith}
 use lib.Dec.{eqb}
 use lib.ListN.{length, take, drop, length-replicate}
 use lib.Seq.{take_all, drop-append_seam}
+use Rattle.std.specs.Prelude.{Result, Ok, Err, Some}
+use Rattle.std.proofs.lemmas.Option.{same_Some}
 use Rattle.laws.specs.Lists.{tab}
 use Rattle.laws.proofs.Lists.{length-tab}
 use Rattle.magnitudes.specs.Modes.{mode_of}
 use Rattle.arrays.specs.Rounding.{refusal_of, rounded_at, afterwards}
 use Rattle.reports.specs.declared.Report.{Report}
 use Rattle.lines.specs.declared.Form.TheVariants.{Number}
-use Rattle.lines.specs.declared.Found.TheVariants.{Value}
-use Rattle.lines.specs.Reading.{read_line}
+use Rattle.lines.specs.declared.Found.{Found}
+use Rattle.lines.specs.Reading.{found, read_line}
 use Rattle.lines.proofs.Forms.{number_fits}
 use Rattle.lines.proofs.Facts.{written_is_read}
-use Rattle.jobs.specs.declared.Reading.{Reading}
-use Rattle.jobs.specs.declared.Reading.TheVariants.{Sound, Bad}
+use Rattle.jobs.specs.declared.BadLine.{BadLine}
 use Rattle.jobs.specs.Layout.{Job, InRange, text_of}
 use Rattle.jobs.specs.BadLines.{FirstBad}
 use Rattle.jobs.specs.Reading.{values_in, reading, job_of}
@@ -46,22 +47,22 @@ bad_lines_are_refused s k first = ap (answer_by (values_in s)) (first_bad_is_nam
 pub every_text_is_either : EveryTextIsEither
 every_text_is_either s = go (reading s) refl
   where
-    go : (a : Reading) → reading s ≡ a → JobOrBad s
-    go Sound e = job (job_of (values_in s)) (read_are_jobs s e).0 (read_are_jobs s e).1
-    go (Bad k) e = bad k (named_is_first_bad s k e)
+    go : (a : Result Unit BadLine) → reading s ≡ a → JobOrBad s
+    go (Ok _) e = job (job_of (values_in s)) (read_are_jobs s e).0 (read_are_jobs s e).1
+    go (Err b) e = bad b.line (named_is_first_bad s b.line e)
 
 -- a text that is cut behind the length of the longest job's is that job's still, or has the same first bad line
 pub long_texts_answer_alike : LongTextsAnswerAlike
 unfolding answer_to answer_by
 long_texts_answer_alike s m enough = go (reading s) refl
   where
-    go : (a : Reading) → reading s ≡ a → answer_to (take m s) ≡ answer_to s
-    go Sound e =
+    go : (a : Result Unit BadLine) → reading s ≡ a → answer_to (take m s) ≡ answer_to s
+    go (Ok _) e =
         let j = job_of (values_in s) in
         let short = jobs_are_short j (read_are_jobs s e).0 in
         let long : length s ≡ length (text_of j) = ap length (read_are_jobs s e).1 in
         ap answer_to (take_all m s (omega arith))
-    go (Bad k) e =
+    go (Err b) e =
         ap (answer_by (values_in (take m s))) (long_texts_are_cut s m enough ∙ e) ∙ sym (ap (answer_by (values_in s)) e)
 
 -- as many patterns are written as there are inputs
@@ -90,14 +91,14 @@ pub answers_are_short : AnswersAreShort
 unfolding answer_to answer_by
 answers_are_short s = go (reading s) refl
   where
-    go : (a : Reading) → reading s ≡ a → length (answer_by (values_in s) a) ≤ longest_answer
-    go Sound e = answer_short (job_of (values_in s)) (read_are_jobs s e).0.many
-    go (Bad k) e = omega (arith, refused_short 12 k)
+    go : (a : Result Unit BadLine) → reading s ≡ a → length (answer_by (values_in s) a) ≤ longest_answer
+    go (Ok _) e = answer_short (job_of (values_in s)) (read_are_jobs s e).0.many
+    go (Err b) e = omega (arith, refused_short 12 b.line)
 
 -- ---- which answers say 12
 
 -- the status is read off an answer's first line,
-status_read : (n : ℕ) (rest : List ℕ) → n ≤ 9999 → read_line status_key (Number 9999) (status_line n ++ rest) ≡ Value n (length (status_line n))
+status_read : (n : ℕ) (rest : List ℕ) → n ≤ 9999 → read_line status_key (Number 9999) (status_line n ++ rest) ≡ Some (found n (length (status_line n)))
 status_read n rest small = written_is_read status_key (Number 9999) n rest (number_fits 9999 n (omega arith) small)
 
 -- so two that begin alike have the same
@@ -105,9 +106,9 @@ status_once : (m n : ℕ) (r t : List ℕ) → m ≤ 9999 → n ≤ 9999 → sta
 status_once m n r t small also same =
     let first = status_read m r small in
     let second = status_read n t also in
-    let both : Value m (length (status_line m)) ≡ Value n (length (status_line n)) =
+    let both : Some (found m (length (status_line m))) ≡ Some (found n (length (status_line n))) =
     sym first ∙ ap (read_line status_key (Number 9999)) same ∙ second in
-    cc both
+    ap (λ (f : Found). f.value) (same_Some _ _ both)
 
 -- and the place off the second line of a refusal
 place_once : (m n number : ℕ) → m ≤ 9999 → n ≤ 9999 → refused number m ≡ refused number n → m ≡ n
@@ -117,11 +118,11 @@ place_once m n number small also same =
     sym (drop-append_seam (status_line number) (place_line m))
     ∙ ap (λ (l : List ℕ). drop (length (status_line number)) l) same
     ∙ drop-append_seam (status_line number) (place_line n) in
-    let both : Value m (length (place_line m)) ≡ Value n (length (place_line n)) =
+    let both : Some (found m (length (place_line m))) ≡ Some (found n (length (place_line n))) =
     sym (place_read m small) ∙ ap (read_line place_key (Number 9999)) (ap (λ (l : List ℕ). l ++ []) lines) ∙ place_read n also in
-    cc both
+    ap (λ (f : Found). f.value) (same_Some _ _ both)
   where
-    place_read : (k : ℕ) → k ≤ 9999 → read_line place_key (Number 9999) (place_line k ++ []) ≡ Value k (length (place_line k))
+    place_read : (k : ℕ) → k ≤ 9999 → read_line place_key (Number 9999) (place_line k ++ []) ≡ Some (found k (length (place_line k)))
     place_read k short = written_is_read place_key (Number 9999) k [] (number_fits 9999 k (omega arith) short)
 
 -- no job's answer says 12
@@ -148,8 +149,8 @@ pub refused_as_12_are_bad : RefusedAs12AreBad
 unfolding answer_to answer_by
 refused_as_12_are_bad s k small same = go (reading s) refl same
   where
-    go : (a : Reading) → reading s ≡ a → answer_by (values_in s) a ≡ refused 12 k → FirstBad s k
-    go Sound e says = absurd (job_not_12 (job_of (values_in s)) k (read_are_jobs s e).0 says)
-    go (Bad m) e says =
-        let few = lines_are_few s m e in
-        subst (λ (n : ℕ). FirstBad s n) (place_once m k 12 (omega arith) small says) (named_is_first_bad s m e)
+    go : (a : Result Unit BadLine) → reading s ≡ a → answer_by (values_in s) a ≡ refused 12 k → FirstBad s k
+    go (Ok _) e says = absurd (job_not_12 (job_of (values_in s)) k (read_are_jobs s e).0 says)
+    go (Err b) e says =
+        let few = lines_are_few s b.line e in
+        subst (λ (n : ℕ). FirstBad s n) (place_once b.line k 12 (omega arith) small says) (named_is_first_bad s b.line e)

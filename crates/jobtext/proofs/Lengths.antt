@@ -32,21 +32,25 @@ patterns_length [] = refl
 patterns_length (y ∷ ys) =
     length-append (pattern_line y) (pattern_lines ys) ∙ omega (arith, pattern_length y, patterns_length ys)
 
--- a refusal is short,
+-- the three parts of the answer to a job
+pub heads_short : (n : ℕ) (ys : List ℕ) → length (status_line 0 ++ (count_line n ++ pattern_lines ys)) ≤ 16 + 19 * length ys
+heads_short n ys =
+    omega (
+      arith,
+      length-append (status_line 0) (count_line n ++ pattern_lines ys),
+      length-append (count_line n) (pattern_lines ys),
+      accepted_status_length,
+      count_length n,
+      patterns_length ys,
+    )
+
+-- are short by its patterns,
+pub accepted_short : (ys : List ℕ) → length (accepted ys) ≤ 16 + 19 * length ys
+unfolding accepted
+accepted_short ys = heads_short (length ys) ys
+
+-- and so is a refusal
 pub refused_short : (number place : ℕ) → length (refused number place) ≤ 20
 unfolding refused
 refused_short number place =
     omega (arith, length-append (status_line number) (place_line place), status_length number, place-length place)
-
--- and so is the answer to a job, by its patterns
-pub accepted_short : (ys : List ℕ) → length (accepted ys) ≤ 16 + 19 * length ys
-unfolding accepted
-accepted_short ys =
-    omega (
-      arith,
-      length-append (status_line 0) (count_line (length ys) ++ pattern_lines ys),
-      length-append (count_line (length ys)) (pattern_lines ys),
-      accepted_status_length,
-      count_length (length ys),
-      patterns_length ys,
-    )

@@ -2,7 +2,6 @@
 -- closed cases.
 pub mod Lengths
 pub mod Printed
-pub mod PatternLines
 pub mod WholeAnswers
 pub mod Zeros
 pub mod Spreads

@@ -1,12 +1,9 @@
 -- The loop that takes entries of a list, so many apart, to another: the start, a turn, and the end. Assumes nothing.
 use mathlib.Core.List.{List}
 use mathlib.Core.Path.{◌≡◌, refl, sym, subst}
-use Prim.Native.Nat.{ℕ, ◌+◌, ◌*◌, ◌^◌, ◌≤◌, ◌<◌}
-use native.Mathlib.Nat.{le_antisymm, mul-le-mul_right, add-mul}
-use native.Mathlib.Omega.{arith}
+use Prim.Native.Nat.{ℕ, ◌+◌, ◌*◌, ◌≤◌, ◌<◌}
+use native.Mathlib.Nat.{le_antisymm}
 use lib.ListN.{length, get_or, set}
-use mir.Val.{Fits}
-use mir.Syntax.{w64}
 use Rattle.laws.specs.Lists.{tab}
 use Rattle.laws.specs.Fills.{FilledTo}
 use Rattle.laws.proofs.Fills.{filled_none, filled_more, filled_all}
@@ -20,29 +17,12 @@ module _ (values : List ℕ) (from apart : ℕ) where
   nothing_spread out = filled_none (spread_at values from apart) out
 
   module _ (out₀ out : List ℕ) (i : ℕ) (long : length out ≡ length out₀) where
-    -- from a list of a size, which has room for every entry,
-    module _ (size : ℕ) (room : from + length out₀ * apart < size + apart) (within : i < length out) where
-      -- the entry is there
-      pub spread_within : from + i * apart < size
-      spread_within = omega (arith, mul-le-mul_right {m = i + 1} {n = length out₀} apart (omega arith), add-mul i 1 apart)
-
-      -- and its place can be worked out
-      module _ (small : size * 8 < 2 ^ 63) where
-        pub spread_product : Fits w64 (i * apart)
-        spread_product = omega (arith, spread_within)
-
-        pub spread_place : Fits w64 (from + i * apart)
-        spread_place = omega (arith, spread_within)
-
-        pub spread_scaled : Fits w64 ((from + i * apart) * 8)
-        spread_scaled = omega (arith, spread_within)
-
     module _ (filled : FilledTo (spread_at values from apart) i out) where
       pub one_more_spread : i < length out₀ → FilledTo (spread_at values from apart) (i + 1) (set out i (get_or values (from + i * apart) 0))
       one_more_spread within =
           filled_more (spread_at values from apart) i out (spread_at values from apart i) refl (subst (λ (n : ℕ). i < n) (sym long) within) filled
 
-      pub all_spread : length out ≤ i → i ≤ length out₀ → out ≡ tab (length out₀) (spread_at values from apart)
+      pub all_spread : length out₀ ≤ i → i ≤ length out₀ → out ≡ tab (length out₀) (spread_at values from apart)
       all_spread reached within =
           filled_all (spread_at values from apart) (length out₀) out long
-          (subst (λ (n : ℕ). FilledTo (spread_at values from apart) n out) (le_antisymm within (subst (λ (n : ℕ). n ≤ i) long reached)) filled)
+          (subst (λ (n : ℕ). FilledTo (spread_at values from apart) n out) (le_antisymm within reached) filled)

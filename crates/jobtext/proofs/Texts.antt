@@ -1,13 +1,12 @@
--- The answer to a text, by what was read of it, and where it is laid. Assumes nothing.
+-- The answer to a text, by what was read of it. Assumes nothing.
 use mathlib.Core.Bool.{cond}
 use mathlib.Core.List.{List}
 use mathlib.Core.Path.{◌≡◌, sym, ap, ◌∙◌, subst, fun_ext}
 use Prim.Native.Nat.{ℕ, ◌+◌, ◌*◌, ◌≤◌}
-use lib.ListN.{length, get_or, take}
-use lib.Seq.{length-take-le}
+use lib.ListN.{get_or}
 use Rattle.laws.specs.Lists.{tab, over}
-use Rattle.jobs.specs.declared.Reading.{Reading}
-use Rattle.jobs.specs.declared.Reading.TheVariants.{Sound, Bad}
+use Rattle.std.specs.Prelude.{Result, Ok, Err}
+use Rattle.jobs.specs.declared.BadLine.{BadLine}
 use Rattle.jobs.specs.Layout.{Job, has_words}
 use Rattle.jobs.specs.Reading.{values_in, reading, job_of}
 use Rattle.jobs.proofs.Sizes.{values_are_few, count_in_range}
@@ -33,7 +32,7 @@ job_alike : (vs ws : List ℕ) → ((i : ℕ) → get_or vs i 0 ≡ get_or ws i 
 unfolding job_of
 job_alike vs ws same = ap {A = ℕ → ℕ} job_by (fun_ext same)
 
-module _ (text values : List ℕ) (r : Reading) (answered : r ≡ reading text) (written : values ≡ over (values_in text) (zeros 2054)) where
+module _ (text values : List ℕ) (written : values ≡ over (values_in text) (zeros 2054)) where
   read_alike : (i : ℕ) → get_or values i 0 ≡ get_or (values_in text) i 0
   read_alike i = ap {A = List ℕ} (λ l. get_or l i 0) written ∙ get_or-over_zeros (values_in text) 2054 i (values_are_few text)
 
@@ -41,33 +40,14 @@ module _ (text values : List ℕ) (r : Reading) (answered : r ≡ reading text) 
   pub few_places : get_or values 5 0 ≤ 1024
   few_places = subst (λ (n : ℕ). n ≤ 1024) (sym (read_alike 5)) (count_in_range text)
 
-  module _ (sound : r ≡ Sound) where
-    -- the answer to a sound text is its job's
-    pub sound_answer : (after : List ℕ) (y : ℕ) → take y after ≡ answer_of (job_of values) → take y after ≡ answer_to text
-    unfolding answer_to answer_by
-    sound_answer after y is =
-        is
-        ∙ ap (λ (j : Job). answer_of j) (job_alike values (values_in text) read_alike)
-        ∙ ap (λ (t : Reading). answer_by (values_in text) t) (sym sound ∙ answered)
+  -- the answer to a sound text is its job's
+  pub sound_answer : (r : Result Unit BadLine) → r ≡ reading text → r ≡ Ok tt → answer_of (job_of values) ≡ answer_to text
+  unfolding answer_to answer_by
+  sound_answer r answered sound =
+      ap (λ (j : Job). answer_of j) (job_alike values (values_in text) read_alike)
+      ∙ ap (λ (t : Result Unit BadLine). answer_by (values_in text) t) (sym sound ∙ answered)
 
 -- the answer to another is the refusal of its bad line
-pub bad_answer : (text : List ℕ) (r : Reading) (k : ℕ) → r ≡ reading text → r ≡ Bad k → (after : List ℕ) (y : ℕ) → take y after ≡ refused 12 k
-    → take y after ≡ answer_to text
+pub bad_answer : (text : List ℕ) (r : Result Unit BadLine) (b : BadLine) → r ≡ reading text → r ≡ Err b → refused 12 b.line ≡ answer_to text
 unfolding answer_to answer_by
-bad_answer text r k answered bad after y is = is ∙ ap (λ (t : Reading). answer_by (values_in text) t) (sym bad ∙ answered)
-
--- ---- the answer in the buffer
-
-module _ (buffer : List ℕ) (y : ℕ) (long : length buffer ≡ 19472) (within : y ≤ 19472) where
-  -- as many bytes of it as are said
-  pub answer_counted : y ≡ length (take y buffer)
-  answer_counted = sym (length-take-le y buffer (subst (λ (n : ℕ). y ≤ n) (sym long) within))
-
-  -- are the answer's length
-  pub answer_length : (text : List ℕ) → take y buffer ≡ answer_to text → y ≡ length (answer_to text)
-  answer_length text is = answer_counted ∙ ap {A = List ℕ} (λ l. length l) is
-
--- they are laid over the output
-pub answer_laid : (text buffer out after : List ℕ) (y : ℕ) → take y buffer ≡ answer_to text → after ≡ over (take y buffer) out
-    → after ≡ over (answer_to text) out
-answer_laid text buffer out after y is laid = laid ∙ ap {A = List ℕ} (λ l. over l out) is
+bad_answer text r b answered bad = ap (λ (t : Result Unit BadLine). answer_by (values_in text) t) (sym bad ∙ answered)

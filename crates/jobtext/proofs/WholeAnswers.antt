@@ -1,129 +1,107 @@
--- Whole answers in a buffer: the first two lines, what stands behind them where nothing is refused, and which answer a report has.
--- Assumes nothing.
-use mathlib.Core.List.{List, ◌++◌, append_assoc}
-use mathlib.Core.Path.{◌≡◌, ap, ◌∙◌}
-use Prim.Native.Nat.{ℕ, ◌+◌, ◌-◌, ◌*◌, ◌≤◌}
+-- Whole answers, printed line after line on an empty page, and which answer a report has. Assumes nothing.
+use mathlib.Core.List.{List, [], ◌∷◌, ◌++◌, append_assoc, append-nil}
+use mathlib.Core.Path.{◌≡◌, sym, ap, ◌∙◌}
+use Prim.Native.Nat.{ℕ, ◌+◌, ◌≤◌, ◌<◌}
+use native.Mathlib.Nat.{le_antisymm}
+use native.Mathlib.Numerals.{add-one}
 use native.Mathlib.Omega.{arith}
-use lib.ListN.{length, take}
-use borrow.Author.Tests.{eq-eqb, ne_eqb}
-use borrow.Rule.Slice.PartMut.{mid_of, put_mid}
-use mir.Val.{Fits}
-use mir.Syntax.{w64}
-use Rattle.laws.specs.Lists.{over}
-use Rattle.laws.proofs.Overlays.{length_over}
-use Rattle.lines.specs.Lines.{taken}
-use Rattle.reports.specs.declared.Report.{Report}
-use Rattle.jobtext.specs.Answers.{status_line, count_line, place_line, pattern_lines, accepted, refused, printed}
-use Rattle.jobtext.proofs.Lengths.{status_length, accepted_status_length, count_length, place-length}
-use Rattle.jobtext.proofs.Printed.{taken-most, first_size, first_length, first_written, behind-size, behind-length, behind-written}
+use lib.ListN.{length, get_or, take}
+use lib.Seq.{take-suc, take-length, length-take-le}
+use borrow.Author.Tests.{ne_eqb}
+use Rattle.std.specs.Prelude.{Result, Ok, Err, Bool, cond}
+use Rattle.refusals.specs.Refusals.{number_of}
+use Rattle.refusals.proofs.Apart.{number_some}
+use Rattle.reports.specs.declared.Refused.{Refused}
+use Rattle.reports.specs.Reports.{reported_by}
+use Rattle.jobtext.specs.Answers.{status_line, count_line, place_line, pattern_line, pattern_lines, accepted, refused, printed}
+use Rattle.jobtext.proofs.Lengths.{status_length, place-length, count_length, pattern_length, heads_short}
 
--- ---- a line, and another behind it
+module _ (page : List ℕ) (empty : page ≡ []) where
+  -- there is room for the first line
+  pub first_fits : (number : ℕ) → length page + length (status_line number) ≤ 19472
+  first_fits number = omega (arith, ap {A = List ℕ} (λ l. length l) empty, status_length number)
 
-module _ (a b buffer first second : List ℕ) (y z : ℕ)
-    (answer : y ≡ taken a buffer) (written : first ≡ over a buffer)
-    (answer2 : z ≡ taken b (mid_of y (length first - y) first)) (written2 : second ≡ over b (mid_of y (length first - y) first))
-    (room : length a + length b ≤ length buffer) where
-  room1 : length a ≤ length buffer
-  room1 = omega arith
+  module _ (number : ℕ) (first : List ℕ) (status : first ≡ page ++ status_line number) where
+    alone : first ≡ status_line number
+    alone = status ∙ ap {A = List ℕ} (λ l. l ++ status_line number) empty
 
-  size : y ≡ length a
-  size = first_size a buffer first y answer written room1
+    -- and for the place or the count behind it
+    pub place_fits : (place : ℕ) → length first + length (place_line place) ≤ 19472
+    place_fits place = omega (arith, ap {A = List ℕ} (λ l. length l) alone, status_length number, place-length place)
 
-  long : length first ≡ length buffer
-  long = first_length a buffer first y answer written room1
+    pub count_fits : (n : ℕ) → length first + length (count_line n) ≤ 19472
+    count_fits n = omega (arith, ap {A = List ℕ} (λ l. length l) alone, status_length number, count_length n)
 
-  room2 : y + length b ≤ length first
-  room2 = omega (arith, size, long)
+    -- with its place a refusal is whole
+    pub refused_printed : (place : ℕ) (second : List ℕ) → second ≡ first ++ place_line place → second ≡ refused number place
+    unfolding refused
+    refused_printed place second is = is ∙ ap {A = List ℕ} (λ l. l ++ place_line place) alone
 
-  two_size : y + z ≡ length a + length b
-  two_size = omega (arith, size, behind-size b first second y z answer2 written2 room2)
+    -- and with the count the patterns follow, of which none is printed
+    pub heads_printed : (ys second : List ℕ) → number ≡ 0 → second ≡ first ++ count_line (length ys)
+        → second ≡ status_line 0 ++ (count_line (length ys) ++ pattern_lines (take 0 ys))
+    unfolding pattern_lines
+    heads_printed ys second none is =
+        is
+        ∙ ap {A = List ℕ} (λ l. l ++ count_line (length ys)) (alone ∙ ap (λ (n : ℕ). status_line n) none)
+        ∙ ap {A = List ℕ} (λ l. status_line 0 ++ l) (sym (append-nil (count_line (length ys))))
 
-  two_length : length (put_mid y (length first - y) first second) ≡ length buffer
-  two_length = behind-length b first second y z answer2 written2 room2 ∙ long
+-- ---- the patterns
 
-  two_written : take (y + z) (put_mid y (length first - y) first second) ≡ a ++ b
-  two_written =
-      behind-written b first second y z answer2 written2 room2
-      ∙ ap {A = List ℕ} (λ l. l ++ b) (first_written a buffer first y answer written room1)
+-- a pattern more is a line more
+lines_snoc : (ys : List ℕ) (y : ℕ) → pattern_lines (ys ++ (y ∷ [])) ≡ pattern_lines ys ++ pattern_line y
+unfolding pattern_lines
+lines_snoc [] y = append-nil (pattern_line y)
+lines_snoc (z ∷ zs) y =
+    ap {A = List ℕ} (λ l. pattern_line z ++ l) (lines_snoc zs y) ∙ sym (append_assoc (pattern_line z) (pattern_lines zs) (pattern_line y))
 
--- ---- the first line
+module _ (ys page : List ℕ) (i : ℕ) (so_far : page ≡ status_line 0 ++ (count_line (length ys) ++ pattern_lines (take i ys))) where
+  module _ (within : i < length ys) where
+    -- there is room for the next line,
+    pub pattern_fits : length ys ≤ 1024 → (y : ℕ) → length page + length (pattern_line y) ≤ 19472
+    pattern_fits many y =
+        omega (
+          arith,
+          ap {A = List ℕ} (λ l. length l) so_far,
+          heads_short (length ys) (take i ys),
+          length-take-le i ys (omega arith),
+          pattern_length y,
+        )
 
--- the status line is in the buffer
-pub status_within : (number : ℕ) (buffer first : List ℕ) (y : ℕ) → length buffer ≡ 19472 → y ≡ taken (status_line number) buffer
-    → first ≡ over (status_line number) buffer → y ≤ length first
-status_within number buffer first y long answer written =
-    omega (arith, taken-most (status_line number) buffer, status_length number, ap {A = List ℕ} (λ l. length l) written ∙ length_over (status_line number) buffer)
+    -- behind which one more is printed
+    pub pattern_printed : (after : List ℕ) → after ≡ page ++ pattern_line (get_or ys i 0)
+        → after ≡ status_line 0 ++ (count_line (length ys) ++ pattern_lines (take (i + 1) ys))
+    pattern_printed after is =
+        is
+        ∙ ap {A = List ℕ} (λ l. l ++ pattern_line (get_or ys i 0)) so_far
+        ∙ append_assoc (status_line 0) (count_line (length ys) ++ pattern_lines (take i ys)) (pattern_line (get_or ys i 0))
+        ∙ ap {A = List ℕ} (λ l. status_line 0 ++ l)
+        (append_assoc (count_line (length ys)) (pattern_lines (take i ys)) (pattern_line (get_or ys i 0))
+        ∙ ap {A = List ℕ} (λ l. count_line (length ys) ++ l)
+        (sym
+        (ap (λ (n : ℕ). pattern_lines (take n ys)) (add-one i)
+        ∙ ap {A = List ℕ} (λ l. pattern_lines l) (take-suc ys i 0 within)
+        ∙ lines_snoc (take i ys) (get_or ys i 0))))
 
--- ---- a refusal
+  -- at the end the answer is whole
+  pub accepted_printed : length ys ≤ i → i ≤ length ys → page ≡ accepted ys
+  unfolding accepted
+  accepted_printed done within =
+      so_far
+      ∙ ap {A = List ℕ} (λ l. status_line 0 ++ (count_line (length ys) ++ pattern_lines l))
+      (ap (λ (n : ℕ). take n ys) (le_antisymm within done) ∙ take-length ys)
 
-module _ (number place : ℕ) (buffer rest : List ℕ) (y z : ℕ) (answer : y ≡ taken (status_line number) buffer)
-    (answer2 : z ≡ taken (place_line place) rest) where
-  -- it is short
-  pub refused_within : y + z ≤ 19472
-  refused_within =
-      omega (arith, taken-most (status_line number) buffer, status_length number, taken-most (place_line place) rest, place-length place)
+-- ---- by what the array call came to
 
-  pub refused_small : Fits w64 (y + z)
-  refused_small = omega (arith, refused_within)
-
--- its two lines stand in the buffer
-pub refused-written : (number place : ℕ) (buffer first second : List ℕ) (y z : ℕ) → length buffer ≡ 19472
-    → y ≡ taken (status_line number) buffer → first ≡ over (status_line number) buffer
-    → z ≡ taken (place_line place) (mid_of y (length first - y) first) → second ≡ over (place_line place) (mid_of y (length first - y) first)
-    → take (y + z) (put_mid y (length first - y) first second) ≡ refused number place
-unfolding refused
-refused-written number place buffer first second y z long answer written answer2 written2 =
-    two_written (status_line number) (place_line place) buffer first second y z answer written answer2 written2
-    (omega (arith, status_length number, place-length place))
-
--- ---- no refusal
-
--- the first two lines are short
-pub heads_small : (n : ℕ) (buffer rest : List ℕ) (y z : ℕ) → y ≡ taken (status_line 0) buffer → z ≡ taken (count_line n) rest → Fits w64 (y + z)
-heads_small n buffer rest y z answer answer2 =
-    omega (arith, taken-most (status_line 0) buffer, accepted_status_length, taken-most (count_line n) rest, count_length n)
-
-module _ (ys buffer first second : List ℕ) (y z : ℕ) (many : length ys ≤ 1024) (long : length buffer ≡ 19472)
-    (answer : y ≡ taken (status_line 0) buffer) (written : first ≡ over (status_line 0) buffer)
-    (answer2 : z ≡ taken (count_line (length ys)) (mid_of y (length first - y) first))
-    (written2 : second ≡ over (count_line (length ys)) (mid_of y (length first - y) first)) where
-  enough : length (status_line 0) + length (count_line (length ys)) ≤ length buffer
-  enough = omega (arith, accepted_status_length, count_length (length ys))
-
-  reached : y + z ≡ length (status_line 0) + length (count_line (length ys))
-  reached = two_size (status_line 0) (count_line (length ys)) buffer first second y z answer written answer2 written2 enough
-
-  kept : length (put_mid y (length first - y) first second) ≡ 19472
-  kept = two_length (status_line 0) (count_line (length ys)) buffer first second y z answer written answer2 written2 enough ∙ long
-
-  -- there is room for the patterns behind them
-  pub patterns_fit : (y + z) + 19 * length ys ≤ length (put_mid y (length first - y) first second)
-  patterns_fit = omega (arith, reached, accepted_status_length, count_length (length ys), kept)
-
-  module _ (end : ℕ) (after : List ℕ) (ends : end ≡ (y + z) + 19 * length ys)
-      (printed : take end after ≡ take (y + z) (put_mid y (length first - y) first second) ++ pattern_lines ys) where
-    -- the answer ends in the buffer
-    pub accepted_within : end ≤ 19472
-    accepted_within = omega (arith, reached, accepted_status_length, count_length (length ys))
-
-    -- and all its lines stand there
-    pub accepted-written : take end after ≡ accepted ys
-    unfolding accepted
-    accepted-written =
-        printed
-        ∙ ap {A = List ℕ} (λ l. l ++ pattern_lines ys)
-        (two_written (status_line 0) (count_line (length ys)) buffer first second y z answer written answer2 written2 enough)
-        ∙ append_assoc (status_line 0) (count_line (length ys)) (pattern_lines ys)
-
--- ---- by the report
-
-module _ (report : Report) (ys after : List ℕ) (y : ℕ) where
+module _ (outcome : Result Unit Refused) (ys page : List ℕ) where
   -- status 0: what was rounded
-  pub printed-accepted : report.number ≡ 0 → take y after ≡ accepted ys → take y after ≡ printed report ys
+  pub printed-accepted : (done : Unit) → outcome ≡ Ok done → page ≡ accepted ys → page ≡ printed (reported_by outcome) ys
   unfolding printed
-  printed-accepted none is = is ∙ simp (eq-eqb report.number 0 none)
+  printed-accepted done is all = all ∙ ap (λ (z : Result Unit Refused). printed (reported_by z) ys) (sym is)
 
   -- another: the refusal
-  pub printed-refused : (report.number ≡ 0 → ⊥) → take y after ≡ refused report.number report.place → take y after ≡ printed report ys
+  pub printed-refused : (e : Refused) → outcome ≡ Err e → page ≡ refused (number_of e.refusal) e.place → page ≡ printed (reported_by outcome) ys
   unfolding printed
-  printed-refused some is = is ∙ simp (ne_eqb report.number 0 some)
+  printed-refused e is all =
+      all ∙ sym (ap (λ (b : Bool). cond b (accepted ys) (refused (number_of e.refusal) e.place)) (ne_eqb (number_of e.refusal) 0 (number_some e.refusal)))
+      ∙ ap (λ (z : Result Unit Refused). printed (reported_by z) ys) (sym is)

@@ -1,12 +1,11 @@
--- Arrays of zeros, and their first entries. Assumes nothing.
+-- Arrays of zeros, and what is laid over them. Assumes nothing.
 use mathlib.Core.Bool.{Bool, true, false}
-use mathlib.Core.List.{List, ◌∷◌, ◌++◌}
+use mathlib.Core.List.{List, ◌++◌}
 use mathlib.Core.Path.{◌≡◌, refl, sym, ap, ◌∙◌}
 use Prim.Native.Nat.{ℕ, zero, suc, ◌+◌, ◌-◌, ◌≤◌}
-use native.Mathlib.Nat.{le_of_suc-le-suc, not-suc-le-zero}
 use native.Mathlib.Omega.{arith}
 use lib.Dec.{ltb}
-use lib.ListN.{length, get_or, take, drop, replicate, length-replicate, get_or-eq_default, get_or-append}
+use lib.ListN.{length, get_or, drop, replicate, length-replicate, get_or-eq_default, get_or-append}
 use lib.Seq.{get_or-append-add, get_or-drop}
 use borrow.Author.Tests.{ltb-true, ltb-false}
 use Rattle.laws.specs.Lists.{over}
@@ -15,16 +14,6 @@ use Rattle.laws.proofs.Overlays.{over-fits}
 -- so many zeros
 abbrev pub zeros : ℕ → List ℕ
 zeros n = replicate n 0
-
--- the first of them are zeros, so many,
-pub take_zeros : (n all : ℕ) → n ≤ all → take n (zeros all) ≡ zeros n
-take_zeros zero all h = refl
-take_zeros (suc n) zero h = absurd (not-suc-le-zero h)
-take_zeros (suc n) (suc all) h = ap {B = List ℕ} (λ l. 0 ∷ l) (take_zeros n all (le_of_suc-le-suc h))
-
--- as are asked for
-pub length-take_zeros : (n all : ℕ) → n ≤ all → n ≡ length (take n (zeros all))
-length-take_zeros n all h = sym (ap {A = List ℕ} (λ l. length l) (take_zeros n all h) ∙ length-replicate n 0)
 
 -- a zero stands at every place, and for what is missing
 get_or_zeros : (all i : ℕ) → get_or (zeros all) i 0 ≡ 0

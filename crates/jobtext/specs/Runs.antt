@@ -1,11 +1,10 @@
 -- The answer to a text (document 01, "The job text" and "Refusal numbers"): a text that is no job's is refused as 12, at its first
 -- bad line, before any other refusal; a job is answered as the array call answers it. Assumes nothing.
-use Rattle.std.specs.Prelude.{List, ℕ, eqb, length, replicate}
+use Rattle.std.specs.Prelude.{Result, Ok, Err, List, ℕ, eqb, length, replicate}
 use Rattle.grid.specs.declared.Format.{Format}
 use Rattle.reports.specs.declared.Report.{Report}
 use Rattle.arrays.specs.Rounding.{reported, afterwards}
-use Rattle.jobs.specs.declared.Reading.{Reading}
-use Rattle.jobs.specs.declared.Reading.TheVariants.{Sound, Bad}
+use Rattle.jobs.specs.declared.BadLine.{BadLine}
 use Rattle.jobs.specs.Layout.{Job}
 use Rattle.jobs.specs.Reading.{values_in, reading, job_of}
 use Rattle.jobtext.specs.Answers.{refused, printed}
@@ -33,9 +32,9 @@ answer_of j = printed (report_of j) (patterns_of j)
 -- `every_text_is_either`; here it is computed, by what is read of the text.
 
 -- of a sound text it goes by its values, and of another by its first bad line
-unfoldable pub answer_by : List ℕ → Reading → List ℕ
-answer_by values Sound = answer_of (job_of values)
-answer_by values (Bad k) = refused 12 k
+unfoldable pub answer_by : List ℕ → Result Unit BadLine → List ℕ
+answer_by values (Ok _) = answer_of (job_of values)
+answer_by values (Err b) = refused 12 b.line
 
 unfoldable pub answer_to : List ℕ → List ℕ
 answer_to s = answer_by (values_in s) (reading s)

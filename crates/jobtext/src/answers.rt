@@ -1,62 +1,48 @@
-// Printing an answer, line after line, into a buffer that has room for the longest.
-ghost use Rattle.std.specs.Prelude.{◌≡◌, ◌+◌, ◌*◌, ◌≤◌, ◌++◌, length, take};
-ghost use Rattle.jobtext.specs.Answers.{pattern_lines, accepted, refused, printed};
+// Printing an answer, line after line, on a page of its own.
+ghost use Rattle.std.specs.Prelude.{◌≡◌, ◌≤◌, length};
+ghost use Rattle.refusals.specs.Refusals.{number_of};
+ghost use Rattle.reports.specs.Reports.{reported_by};
+ghost use Rattle.jobtext.specs.Answers.{accepted, refused, printed};
 
-use lines::{Form, write_line};
-use reports::Report;
+use super::page::Page;
+use lines::Form;
+use refusals::Refusal;
+use reports::Refused;
 
-// A line for each pattern, behind the first `from` bytes; and where the last one ends.
-fn print_patterns(ys: &[u64], from: usize, buffer: &mut [u8]) -> usize
-    requires { from + 19 * length ys.now ≤ length buffer.old }
-    ensures end { result ≡ from + 19 * length ys.now }
-    ensures written { take result buffer.new ≡ take from buffer.old ++ pattern_lines ys.now }
+// The form of each number in an answer.
+const NUMBER: Form = Form::Number(9999);
+
+// The answer to a job that is not refused.
+fn print_accepted(ys: &[u64]) -> Page
+    requires { length ys.now ≤ 1024 }
+    ensures { result ≡ accepted ys.now }
 {
-    let mut at = from;
-    let mut i = 0;
-    while i < ys.len() {
-        at += write_line(&mut buffer[at..], b"y=", Form::Word, ys[i]);
-        i += 1;
+    let mut page = Page::new();
+    page.add(b"status=", NUMBER, 0);
+    page.add(b"n=", NUMBER, ys.len() as u64);
+    for &y in ys {
+        page.add(b"y=", Form::Word, y);
     }
-    at
+    page
 }
 
-// The answer to a job that is not refused, and its length.
-fn print_accepted(ys: &[u64], buffer: &mut [u8]) -> usize
-    requires many { length ys.now ≤ 1024 }
-    requires room { length buffer.old ≡ 19472 }
-    ensures within { result ≤ 19472 }
-    ensures written { take result buffer.new ≡ accepted ys.now }
+// The answer to a refused job.
+pub(crate) fn print_refused(refusal: Refusal, place: u64) -> Page
+    ensures { result ≡ refused (number_of refusal) place }
 {
-    let status = write_line(buffer, b"status=", Form::Number(9999), 0);
-    let from = status
-        + write_line(
-            &mut buffer[status..],
-            b"n=",
-            Form::Number(9999),
-            ys.len() as u64,
-        );
-    print_patterns(ys, from, buffer)
+    let mut page = Page::new();
+    page.add(b"status=", NUMBER, refusal.number());
+    page.add(b"at=", NUMBER, place);
+    page
 }
 
-// The answer to one that is, and its length.
-pub(crate) fn print_refused(number: u64, place: u64, buffer: &mut [u8]) -> usize
-    requires { length buffer.old ≡ 19472 }
-    ensures within { result ≤ 19472 }
-    ensures written { take result buffer.new ≡ refused number place }
+// The answer by what an array call came to, and by its output.
+pub(crate) fn print_outcome(outcome: Result<(), Refused>, ys: &[u64]) -> Page
+    requires { length ys.now ≤ 1024 }
+    ensures { result ≡ printed (reported_by outcome) ys.now }
 {
-    let status = write_line(buffer, b"status=", Form::Number(9999), number);
-    status + write_line(&mut buffer[status..], b"at=", Form::Number(9999), place)
-}
-
-// The answer by an array call's report and output, and its length.
-pub(crate) fn print_report(report: Report, ys: &[u64], buffer: &mut [u8]) -> usize
-    requires many { length ys.now ≤ 1024 }
-    requires room { length buffer.old ≡ 19472 }
-    ensures within { result ≤ 19472 }
-    ensures written { take result buffer.new ≡ printed report ys.now }
-{
-    if report.number == 0 {
-        return print_accepted(ys, buffer);
+    match outcome {
+        Ok(()) => print_accepted(ys),
+        Err(it) => print_refused(it.refusal, it.place),
     }
-    print_refused(report.number, report.place, buffer)
 }

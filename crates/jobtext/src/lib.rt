@@ -3,6 +3,7 @@
 #![tactic(auto)]
 
 mod answers;
+mod page;
 mod runs;
 
 pub use runs::run_job;

@@ -1,7 +1,6 @@
 -- The known formats (document 01, "The target format" and "Refusal numbers"). Assumes nothing.
 use Rattle.std.specs.Prelude.{true, false, cond, List, [], ◌∷◌, ℕ, ltb, length, get_or}
 use Rattle.grid.specs.declared.Format.{Format}
-use Rattle.known.specs.declared.Lookup.{Lookup}
 
 -- a format by its precision and its largest exponent, with subnormals
 abbrev pub with_subnormals : ℕ → ℕ → Format
@@ -22,14 +21,22 @@ formats =
 abbrev pub none : Format
 none = record { p = 0; emax = 0; sub = false }
 
+-- the answer of a lookup: a number, and a format
+pub record Lookup : Type 0 where
+  pub number : ℕ
+  pub format : Format
+
+-- number 0 and a format, or the refusal's number and no format
+abbrev pub with_format : Format → Lookup
+with_format f = record { number = 0; format = f }
+
+abbrev pub refused : ℕ → Lookup
+refused number = record { number = number; format = none }
+
 -- what a lookup answers up to the table's end
 abbrev pub found : ℕ → Lookup
-found n = record { number = 0; format = get_or formats n none }
+found n = with_format (get_or formats n none)
 
--- and above it: refusal 11
-abbrev pub refused : Lookup
-refused = record { number = 11; format = none }
-
--- the format with the number, or the refusal
+-- the format with the number; and above the table's end refusal 11
 unfoldable pub lookup : ℕ → Lookup
-lookup n = cond (ltb n (length formats)) (found n) refused
+lookup n = cond (ltb n (length formats)) (found n) (refused 11)

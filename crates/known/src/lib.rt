@@ -3,17 +3,11 @@
 #![tactic(auto)]
 
 ghost use Rattle.std.specs.Prelude.{◌≡◌};
-ghost use Rattle.known.specs.Table.{lookup};
+ghost use Rattle.refusals.specs.Refusals.{in_numbers};
+ghost use Rattle.known.specs.Table.{with_format, refused, lookup};
 
 use grid::Format;
-
-// The answer of a lookup: number 0 and the format, or number 11 and a format of zeros with
-// subnormals off.
-#[derive(Clone, Copy)]
-pub struct Lookup {
-    pub number: u64,
-    pub format: Format,
-}
+use refusals::Refusal;
 
 const TABLE: [Format; 6] = [
     // 0: binary16
@@ -54,20 +48,12 @@ const TABLE: [Format; 6] = [
     },
 ];
 
-// The known format with this number; refused as 11 above the table's end.
-pub fn known_format(known: u64) -> Lookup
-    ensures { result ≡ lookup known }
+// The known format with this number; refused as unknown above the table's end.
+pub fn known_format(known: u64) -> Result<Format, Refusal>
+    ensures { in_numbers with_format refused result ≡ lookup known }
 {
-    if known < 6 {
-        let format = TABLE[known as usize];
-        return Lookup { number: 0, format };
-    }
-    Lookup {
-        number: 11,
-        format: Format {
-            p: 0,
-            emax: 0,
-            sub: false,
-        },
-    }
+    TABLE
+        .get(known as usize)
+        .copied()
+        .ok_or(Refusal::UnknownFormat)
 }

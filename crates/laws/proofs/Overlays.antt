@@ -4,11 +4,11 @@ use mathlib.Core.Bool.{Bool, true, false, cond}
 use mathlib.Core.List.{List, [], ◌∷◌, ◌++◌, append_assoc, append-nil}
 use mathlib.Core.Path.{◌≡◌, refl, sym, ap, ap₂, ◌∙◌}
 use Prim.Native.Nat.{ℕ, suc, ◌+◌, ◌-◌, ◌≤◌, ◌<◌}
-use native.Mathlib.Nat.{le_of_lt, zero-add}
+use native.Mathlib.Nat.{le_of_lt}
 use native.Mathlib.Omega.{arith}
 use lib.Dec.{leb}
 use lib.ListN.{length, get_or, set, take, drop, length-append, length-drop, drop_of_length-le, get_or-append}
-use lib.Seq.{length-take-le, take_all, take-suc, take-length, drop-cons, append_snoc, set_at, take-append_seam, drop-append_seam, drop-drop, paste}
+use lib.Seq.{length-take-le, take_all, take-suc, drop-cons, append_snoc, set_at, take-append_seam, drop-append_seam, drop-drop}
 use borrow.Author.Tests.{leb-true, le-leb, lt-leb}
 use Rattle.laws.specs.Lists.{over}
 
@@ -47,11 +47,6 @@ module _ (a l : List ℕ) (fits : length a ≤ length l) where
   get_or-over i within = ap (λ (m : List ℕ). get_or m i 0) (over-fits a l fits) ∙ get_or-append a (drop (length a) l) 0 i within
 
 -- ---- written entry after entry
-
--- upwards all that is pasted is what is laid over
-pub pasted_over : (a l : List ℕ) → length a ≤ length l → paste l 0 a (length a) ≡ over a l
-pasted_over a l fits =
-    ap₂ {C = List ℕ} (λ (r : List ℕ) (n : ℕ). r ++ drop n l) (take-length a) (zero-add (length a)) ∙ sym (over-fits a l fits)
 
 -- downwards a list comes in another's place: one entry more, of which the last ones are there
 pub one_more_down : (new old : List ℕ) (i : ℕ) → length new ≡ length old → i < length old

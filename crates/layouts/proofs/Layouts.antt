@@ -11,19 +11,23 @@ use lib.Pow.{pow_mono, high, ones_lt, ones_split, shl_lt, shl_exact}
 use borrow.Author.Tests.{eqb-true, eq-eqb, ne_eqb}
 use Rattle.laws.proofs.Digits.{size_above}
 use Rattle.laws.proofs.Words.{one_shifted, shifted_not_above}
+use Rattle.std.specs.Prelude.{Result, Ok, Err}
+use Rattle.refusals.specs.declared.Refusal.{Refusal}
+use Rattle.refusals.specs.declared.Refusal.TheVariants.{NoCode}
+use Rattle.refusals.specs.Refusals.{number_of, in_numbers, refusal_number}
+use Rattle.refusals.proofs.Apart.{number_some}
 use Rattle.patterns.specs.Patterns.{digits_of}
 use Rattle.patterns.proofs.Values.{digits_subnormal}
 use Rattle.grid.specs.declared.Format.{Format}
-use Rattle.grid.specs.Formats.{exponent_fits, InRange, zeta_exp, smallest_normal, T, pattern_in, exponent_in}
+use Rattle.grid.specs.Formats.{exponent_fits, range_refusal, InRange, zeta_exp, smallest_normal, T, pattern_in, exponent_in}
 use Rattle.grid.proofs.Ranges.{between-most}
 use Rattle.grid.proofs.Landmarks.{pattern_in_range, exponent-in_range}
 use Rattle.layouts.specs.declared.Layout.{Layout}
-use Rattle.layouts.specs.declared.Laid.{Laid}
 use Rattle.layouts.specs.Fields.{be, has_code, width, ones}
 use Rattle.layouts.specs.Calls.{format_refusal}
-use Rattle.layouts.specs.Layouts.{layout, ready, refused, laid}
+use Rattle.layouts.specs.Layouts.{Laid, layout, ready, refused, laid}
 use Rattle.layouts.proofs.Fields.{exponent_bits_few, exponent_bits_most, width_fits}
-use Rattle.layouts.proofs.Refusals.{accepted-in_range, accepted_inside}
+use Rattle.layouts.proofs.Refusals.{accepted-in_range, accepted_inside, refuses_code}
 
 -- ---- the exponent field
 
@@ -126,29 +130,37 @@ module _ (f : Format) (none : format_refusal f ≡ 0) (bits : ℕ) (e : bits ≡
 
 -- ---- what a format comes to
 
-module _ (f : Format) (n : ℕ) (e : n ≡ format_refusal f) where
-  pub laid-ready : n ≡ 0 → (l : Layout) → l ≡ layout f → record { number = n; layout = l } ≡ laid f
+module _ (f : Format) where
+  pub laid_ready : format_refusal f ≡ 0 → (l : Layout) → l ≡ layout f → ready l ≡ laid f
   unfolding laid
-  laid-ready none l made = simp (← e, none, made)
+  laid_ready none l made = simp (none, made)
 
-  pub laid-refused : (n ≡ 0 → ⊥) → refused n ≡ laid f
+  pub laid_refused : (e : Refusal) → number_of e ≡ format_refusal f → refused (number_of e) ≡ laid f
   unfolding laid
-  laid-refused some = simp (← e, ne_eqb n 0 some)
+  laid_refused e is = simp (← is, ne_eqb (number_of e) 0 (number_some e))
+
+  pub laid_without_code : 0 ≡ range_refusal f → false ≡ has_code f → refused 7 ≡ laid f
+  laid_without_code fits lacks = laid_refused NoCode (refuses_code f fits lacks)
 
 -- and what that says of the format
 module _ (f : Format) (l : Laid) (e : l ≡ laid f) where
   -- the number is the refusal's
-  pub laid-number : l.number ≡ format_refusal f
+  pub laid_number : l.number ≡ format_refusal f
   unfolding laid
-  laid-number = ap (λ (y : Laid). y.number) e ∙ go (eqb (format_refusal f) 0) refl
+  laid_number = ap (λ (y : Laid). y.number) e ∙ go (eqb (format_refusal f) 0) refl
     where
       go : (b : Bool) → eqb (format_refusal f) 0 ≡ b → (cond b (ready (layout f)) (refused (format_refusal f))).number ≡ format_refusal f
       go true t = sym (eqb-true (format_refusal f) 0 t)
       go false t = refl
 
   -- and where that is 0, it has the format's layout
-  pub laid-layout : l.number ≡ 0 → l.layout ≡ layout f
+  pub laid_layout : l.number ≡ 0 → l.layout ≡ layout f
   unfolding laid
-  laid-layout none =
+  laid_layout none =
       ap (λ (y : Laid). y.layout) e
-      ∙ ap (λ (b : Bool). (cond b (ready (layout f)) (refused (format_refusal f))).layout) (eq-eqb (format_refusal f) 0 (sym laid-number ∙ none))
+      ∙ ap (λ (b : Bool). (cond b (ready (layout f)) (refused (format_refusal f))).layout) (eq-eqb (format_refusal f) 0 (sym laid_number ∙ none))
+
+-- so that a format that has no layout is refused by its own number
+pub laid_refusal : (f : Format) (r : Result Layout Refusal) → in_numbers ready refused r ≡ laid f → refusal_number r ≡ format_refusal f
+laid_refusal f (Ok l) e = laid_number f (ready l) e
+laid_refusal f (Err d) e = laid_number f (refused (number_of d)) e

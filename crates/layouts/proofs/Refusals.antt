@@ -4,10 +4,14 @@ use mathlib.Core.Bool.{Bool, true, false, cond, not, ◌&&◌}
 use mathlib.Core.Path.{◌≡◌, refl, sym, ◌∙◌}
 use Prim.Native.Nat.{ℕ, ◌≤◌}
 use native.Mathlib.Omega.{arith}
-use borrow.Author.Tests.{not-false}
+use lib.Dec.{eqb}
+use borrow.Author.Tests.{ne_eqb}
 use Rattle.laws.proofs.Tests.{and_left, and_right}
+use Rattle.refusals.specs.declared.Refusal.{Refusal}
+use Rattle.refusals.specs.Refusals.{number_of}
+use Rattle.refusals.proofs.Apart.{number_some}
 use Rattle.grid.specs.declared.Format.{Format}
-use Rattle.grid.specs.Formats.{precision_fits, exponent_fits, in_range, InRange}
+use Rattle.grid.specs.Formats.{precision_fits, exponent_fits, in_range, range_refusal, InRange}
 use Rattle.grid.proofs.Ranges.{in_range_bounds, bounds_in_range}
 use Rattle.layouts.specs.Fields.{has_code, HasCode}
 use Rattle.layouts.specs.Calls.{format_refusal}
@@ -15,29 +19,36 @@ use Rattle.layouts.proofs.Fields.{tested_has_code, has_code_tested}
 
 -- ---- one test after the other
 
-module _ (f : Format) (p : Bool) (p-tested : p ≡ precision_fits f.p) where
-  pub refuses_precision : not p ≡ true → 1 ≡ format_refusal f
-  unfolding format_refusal
-  refuses_precision p-fails = simp (← p-tested, p-fails)
+-- what p and emax refuse comes first, and then 7
+by_range : (f : Format) → format_refusal f ≡ cond (eqb (range_refusal f) 0) (cond (not (has_code f)) 7 0) (range_refusal f)
+unfolding format_refusal
+by_range f = go (not (precision_fits f.p)) (not (exponent_fits f.emax))
+  where
+    go : (p x : Bool) → ◌≡◌ {A = ℕ} (cond p 1 (cond x 2 (cond (not (has_code f)) 7 0)))
+        (cond (eqb (cond p 1 (cond x 2 0)) 0) (cond (not (has_code f)) 7 0) (cond p 1 (cond x 2 0)))
+    go true x = refl
+    go false true = refl
+    go false false = refl
 
-  module _ (p-fits : not p ≡ false) (x : Bool) (x-tested : x ≡ exponent_fits f.emax) where
-    pub refuses_exponent : not x ≡ true → 2 ≡ format_refusal f
-    unfolding format_refusal
-    refuses_exponent x-fails = simp (← p-tested, p-fits, ← x-tested, x-fails)
+module _ (f : Format) where
+  pub refuses_range : (e : Refusal) → number_of e ≡ range_refusal f → number_of e ≡ format_refusal f
+  refuses_range e is = sym (by_range f ∙ simp (← is, ne_eqb (number_of e) 0 (number_some e)))
 
-    module _ (x-fits : not x ≡ false) where
-      -- only an emax in range is asked for its code
-      pub asked_exponent-fits : exponent_fits f.emax ≡ true
-      asked_exponent-fits = sym x-tested ∙ not-false x x-fits
+  module _ (fits : 0 ≡ range_refusal f) where
+    -- only an emax in range is asked for its code
+    pub asked_exponent_fits : exponent_fits f.emax ≡ true
+    asked_exponent_fits = go (precision_fits f.p) (exponent_fits f.emax) fits
+      where
+        go : (p x : Bool) → ◌≡◌ {A = ℕ} 0 (cond (not p) 1 (cond (not x) 2 0)) → x ≡ true
+        go true true h = refl
+        go true false h = absurd (omega arith)
+        go false x h = absurd (omega arith)
 
-      module _ (c : Bool) (c-tested : c ≡ has_code f) where
-        pub accepts_code : c ≡ true → 0 ≡ format_refusal f
-        unfolding format_refusal
-        accepts_code has = simp (← p-tested, p-fits, ← x-tested, x-fits, ← c-tested, has)
+    pub refuses_code : false ≡ has_code f → 7 ≡ format_refusal f
+    refuses_code lacks = sym (by_range f ∙ simp (← fits, ← lacks))
 
-        pub refuses_code : c ≡ false → 7 ≡ format_refusal f
-        unfolding format_refusal
-        refuses_code lacks = simp (← p-tested, p-fits, ← x-tested, x-fits, ← c-tested, lacks)
+    pub accepts_code : true ≡ has_code f → format_refusal f ≡ 0
+    accepts_code has = by_range f ∙ simp (← fits, ← has)
 
 -- 7 is the last of them
 pub format_refusal-most : (f : Format) → format_refusal f ≤ 7
@@ -71,9 +82,9 @@ accepted_tested f none = go (precision_fits f.p) (exponent_fits f.emax) (has_cod
     go true false c h = absurd (omega arith)
     go false x c h = absurd (omega arith)
 
-pub accepted-exponent-fits : (f : Format) → format_refusal f ≡ 0 → exponent_fits f.emax ≡ true
+pub accepted_exponent_fits : (f : Format) → format_refusal f ≡ 0 → exponent_fits f.emax ≡ true
 unfolding in_range
-accepted-exponent-fits f none = and_right (precision_fits f.p) (exponent_fits f.emax) (accepted-in_range f none)
+accepted_exponent_fits f none = and_right (precision_fits f.p) (exponent_fits f.emax) (accepted-in_range f none)
 
 pub accepted_inside : (f : Format) → format_refusal f ≡ 0 → InRange f
 accepted_inside f none = in_range_bounds f (accepted-in_range f none)

@@ -4,7 +4,6 @@ use Rattle.patterns.specs.Patterns.{pat}
 use Rattle.grid.specs.declared.Format.{Format}
 use Rattle.grid.specs.Formats.{zeta_exp, smallest_normal, T}
 use Rattle.layouts.specs.declared.Layout.{Layout}
-use Rattle.layouts.specs.declared.Laid.{Laid}
 use Rattle.layouts.specs.Fields.{width, ones}
 use Rattle.layouts.specs.Calls.{format_refusal}
 
@@ -23,6 +22,11 @@ layout f =
       infinity = ones f * 2 ^ (f.p - 1);
       nan = ones f * 2 ^ (f.p - 1) + 2 ^ (f.p - 2);
     }
+
+-- what a format comes to by number: number 0 and its layout, or the number of the refusal and zeros
+pub record Laid : Type 0 where
+  pub number : ℕ
+  pub layout : Layout
 
 -- what stands in where the format is refused: zeros
 abbrev pub no_layout : Layout

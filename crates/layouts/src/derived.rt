@@ -1,18 +1,19 @@
 // A format's layout, and the refusals that come before any code or pattern is looked at.
 ghost use Rattle.std.specs.Prelude.{true, ◌≡◌, ◌+◌, ◌-◌, ◌*◌, ◌^◌, ◌≤◌, ◌<◌};
+ghost use Rattle.refusals.specs.Refusals.{in_numbers};
 ghost use Rattle.grid.specs.Formats.{exponent_fits};
 ghost use Rattle.layouts.specs.Fields.{be, has_code};
 ghost use Rattle.layouts.specs.Calls.{format_refusal};
-ghost use Rattle.layouts.specs.Layouts.{layout, laid};
+ghost use Rattle.layouts.specs.Layouts.{layout, ready, refused, laid};
 
-use super::{Laid, Layout};
-use grid::{
-    Format, exponent_fits, precision_fits, smallest_normal_pattern, top_pattern, zeta_exponent,
-};
+use super::Layout;
+use grid::{Format, check_range, smallest_normal_pattern, top_pattern, zeta_exponent};
 use patterns::digits_of;
+use refusals::Refusal;
 
 // How many bits the exponent field has: the digits of emax + 1, which is small enough to be the pattern
 // of itself.
+#[tactic(auto, using(crate::proofs::Layouts::emax_most, crate::proofs::Layouts::exponent_bits_are))]
 fn exponent_bits(f: Format) -> u64
     requires { exponent_fits f.emax ≡ true }
     ensures { result ≡ be f }
@@ -28,23 +29,6 @@ fn has_code(f: Format) -> bool
     f.emax + 1 == 1 << (exponent_bits(f) - 1)
 }
 
-// The number of the first refusal that applies, and 0 where none does: 1 for p, 2 for emax, 7 for a
-// format without a code.
-fn refusal_of(f: Format) -> u64
-    ensures { result ≡ format_refusal f }
-{
-    if !precision_fits(f.p) {
-        return 1;
-    }
-    if !exponent_fits(f.emax) {
-        return 2;
-    }
-    if has_code(f) {
-        return 0;
-    }
-    7
-}
-
 // The code of infinity, without its sign: an exponent field of ones only.
 fn infinity_code(bits: u64, p: u64) -> u64
     requires bits_bound { bits ≤ 11 }
@@ -56,6 +40,7 @@ fn infinity_code(bits: u64, p: u64) -> u64
 }
 
 // The code of a NaN, without its sign: the same with the top fraction bit.
+#[tactic(auto, using(crate::proofs::Layouts::nan_code_is, crate::proofs::Layouts::nan_code_fits))]
 fn nan_code(infinity: u64, p: u64) -> u64
     requires infinity_bound { infinity < 2 ^ 63 }
     requires le_p { 2 ≤ p }
@@ -66,6 +51,7 @@ fn nan_code(infinity: u64, p: u64) -> u64
 }
 
 // The layout of a format that has a code.
+#[tactic(auto, using(crate::proofs::Refusals::accepted_exponent_fits, crate::proofs::Refusals::accepted_inside, crate::proofs::Layouts::accepted_bits_most, crate::proofs::Layouts::infinity_code_below))]
 fn layout_of(f: Format) -> Layout
     requires { format_refusal f ≡ 0 }
     ensures { result ≡ layout f }
@@ -87,30 +73,15 @@ fn layout_of(f: Format) -> Layout
     }
 }
 
-// The layout to pack and unpack by, or the refusal's number.
-pub fn lay_out(format: Format) -> Laid
-    ensures { result ≡ laid format }
+// The layout to pack and unpack by; or the first refusal that applies, that of p or of emax, and then that
+// of a format without a code.
+#[tactic(auto, using(crate::proofs::Refusals::refuses_range, crate::proofs::Refusals::asked_exponent_fits, crate::proofs::Refusals::accepts_code, crate::proofs::Layouts::laid_ready, crate::proofs::Layouts::laid_refused, crate::proofs::Layouts::laid_without_code))]
+pub fn lay_out(format: Format) -> Result<Layout, Refusal>
+    ensures { in_numbers ready refused result ≡ laid format }
 {
-    let number = refusal_of(format);
-    if number == 0 {
-        return Laid {
-            number,
-            layout: layout_of(format),
-        };
+    check_range(format)?;
+    if !has_code(format) {
+        return Err(Refusal::NoCode);
     }
-    Laid {
-        number,
-        layout: Layout {
-            sub: false,
-            spare: 0,
-            last: 0,
-            cut: 0,
-            bottom: 0,
-            normal: 0,
-            top: 0,
-            first: 0,
-            infinity: 0,
-            nan: 0,
-        },
-    }
+    Ok(layout_of(format))
 }

@@ -32,10 +32,3 @@ pub struct Layout {
     // the code of a NaN
     pub nan: u64,
 }
-
-// What a format comes to: number 0 and its layout, or the number of the refusal and zeros.
-#[derive(Clone, Copy)]
-pub struct Laid {
-    pub number: u64,
-    pub layout: Layout,
-}

@@ -6,12 +6,13 @@ use Prim.Native.Nat.{ℕ, ◌+◌, ◌-◌, ◌≤◌}
 use native.Mathlib.Omega.{arith}
 use lib.ListN.{length, drop, length-append}
 use lib.Seq.{drop-append_seam, drop-drop}
+use Rattle.std.specs.Prelude.{Option, Some, None}
+use Rattle.std.proofs.lemmas.Option.{same_Some}
 use Rattle.lines.specs.declared.Form.{Form}
 use Rattle.lines.specs.declared.Found.{Found}
-use Rattle.lines.specs.declared.Found.TheVariants.{Value, Nothing}
 use Rattle.lines.specs.Numerals.{digits}
 use Rattle.lines.specs.Lines.{line_feed, base, width, line}
-use Rattle.lines.specs.Reading.{begins, behind, read_value, read_line}
+use Rattle.lines.specs.Reading.{begins, found, behind, read_value, read_line}
 use Rattle.lines.specs.Facts.{WrittenIsRead, ReadFits, ReadIsWritten}
 use Rattle.lines.proofs.Keys.{begins_key, begins_splits}
 use Rattle.lines.proofs.Lengths.{length-line}
@@ -29,28 +30,28 @@ unfolding read_line behind
 written_is_read key form n rest h =
     let t = digits (base form) (width form n) n ++ line_feed ∷ rest in
     ap (read_line key form) (line_parts key form n rest)
-    ∙ ap₂ {C = Found} (λ (b : Bool) (s : List ℕ). cond b (behind (length key) (read_value form s)) Nothing) (begins_key key t) (drop-append_seam key t)
+    ∙ ap₂ {C = Option Found} (λ (b : Bool) (s : List ℕ). cond b (behind (length key) (read_value form s)) None) (begins_key key t) (drop-append_seam key t)
     ∙ ap (behind (length key)) (written-value form n rest h)
-    ∙ ap {B = Found} (λ (k : ℕ). Value n k) (sym (length-line key form n))
+    ∙ ap {B = Option Found} (λ (k : ℕ). Some (found n k)) (sym (length-line key form n))
 
 -- ---- what is read
 
 -- what is found behind a key was found with the same value, and took the bytes that the key leaves
-behind-found : (key : ℕ) (f : Found) (n used : ℕ) → behind key f ≡ Value n used → f ≡ Value n (used - key)
+behind-found : (key : ℕ) (f : Option Found) (n used : ℕ) → behind key f ≡ Some (found n used) → f ≡ Some (found n (used - key))
 unfolding behind
-behind-found key (Value m u) n used e =
-    let same : m ≡ n = cc e in
-    let bytes : key + u ≡ used = cc e in
-    ap₂ {C = Found} (λ (v k : ℕ). Value v k) same (omega arith)
-behind-found key Nothing n used e = cc
+behind-found key (Some f) n used e =
+    let same : f.value ≡ n = ap (λ (g : Found). g.value) (same_Some (found f.value (key + f.used)) (found n used) e) in
+    let bytes : key + f.used ≡ used = ap (λ (g : Found). g.used) (same_Some (found f.value (key + f.used)) (found n used) e) in
+    ap₂ {C = Option Found} (λ (v k : ℕ). Some (found v k)) same (omega arith)
+behind-found key None n used e = cc
 
 -- which are not fewer than the key's
-behind-most : (key : ℕ) (f : Found) (n used : ℕ) → behind key f ≡ Value n used → used ≡ key + (used - key)
+behind-most : (key : ℕ) (f : Option Found) (n used : ℕ) → behind key f ≡ Some (found n used) → used ≡ key + (used - key)
 unfolding behind
-behind-most key (Value m u) n used e = let bytes : key + u ≡ used = cc e in omega arith
-behind-most key Nothing n used e = cc
+behind-most key (Some f) n used e = let bytes : key + f.used ≡ used = ap (λ (g : Found). g.used) (same_Some (found f.value (key + f.used)) (found n used) e) in omega arith
+behind-most key None n used e = cc
 
-module _ (key : List ℕ) (form : Form) (s : List ℕ) (n used : ℕ) (e : read_line key form s ≡ Value n used) where
+module _ (key : List ℕ) (form : Form) (s : List ℕ) (n used : ℕ) (e : read_line key form s ≡ Some (found n used)) where
   -- the text behind the key, and how many of its bytes are used
   abbrev after : List ℕ
   after = drop (length key) s
@@ -64,12 +65,12 @@ module _ (key : List ℕ) (form : Form) (s : List ℕ) (n used : ℕ) (e : read_
   line_key = begins_splits key s (found_passed (begins key s) (behind (length key) (read_value form after)) n used e)
 
   -- and behind it the value is found
-  line-behind : behind (length key) (read_value form after) ≡ Value n used
+  line-behind : behind (length key) (read_value form after) ≡ Some (found n used)
   unfolding read_line
   line-behind = found_under (begins key s) (behind (length key) (read_value form after)) n used e
 
   -- with the bytes that the key leaves
-  line-value : read_value form after ≡ Value n left
+  line-value : read_value form after ≡ Some (found n left)
   line-value = behind-found (length key) (read_value form after) n used line-behind
 
   line_used : used ≡ length key + left
@@ -97,7 +98,7 @@ pub read_is_written : ReadIsWritten
 read_is_written key form s n used e = (line-begins key form s n used e, line_bytes key form s n used e)
 
 -- so the bytes that it takes are the text's
-pub read_ends_within : (key : List ℕ) (form : Form) (s : List ℕ) (n used : ℕ) → read_line key form s ≡ Value n used → used ≤ length s
+pub read_ends_within : (key : List ℕ) (form : Form) (s : List ℕ) (n used : ℕ) → read_line key form s ≡ Some (found n used) → used ≤ length s
 read_ends_within key form s n used e =
     omega (
       arith,

@@ -1,6 +1,6 @@
 -- The two forms of a value: their bases, how many digits a value of the form takes, and which values are of it. Assumes nothing.
 use mathlib.Core.Bool.{Bool, true, false, cond, ◌&&◌}
-use mathlib.Core.Path.{◌≡◌, refl, sym, ap, ap₂, subst}
+use mathlib.Core.Path.{◌≡◌, refl, ap, ap₂}
 use Prim.Native.Nat.{ℕ, ◌^◌, ◌≤◌, ◌<◌}
 use native.Mathlib.Nat.{le_refl}
 use native.Mathlib.Omega.{arith}
@@ -22,18 +22,6 @@ pub base_small : (form : Form) → base form ≤ 16
 base_small (Number most) = omega arith
 base_small Word = omega arith
 
--- in the forms in which the code comes to them
-pub some_base : (form : Form) (b : ℕ) → b ≡ base form → 0 < b
-some_base form b is = subst (λ (m : ℕ). 0 < m) (sym is) (base_some form)
-
-pub small_base : (form : Form) (b : ℕ) → b ≡ base form → b ≤ 16
-small_base form b is = subst (λ (m : ℕ). m ≤ 16) (sym is) (base_small form)
-
--- no more than sixteen digits are read
-pub longest_small : (form : Form) (n : ℕ) → n ≡ longest form → n ≤ 16
-longest_small (Number most) n is = omega arith
-longest_small Word n is = omega arith
-
 -- a decimal number takes four digits at most
 pub decimals-most : (n : ℕ) → decimals n ≤ 4
 unfolding decimals
@@ -45,7 +33,12 @@ decimals-most n = go (ltb n 10) (ltb n 100) (ltb n 1000)
     go false false true = omega arith
     go false false false = omega arith
 
--- which hold it
+-- and a digit one
+pub decimals-one : (n : ℕ) → n < 10 → decimals n ≡ 1
+unfolding decimals
+decimals-one n low = simp (lt-ltb n 10 low)
+
+-- they hold it
 decimals_hold : (n : ℕ) → n < 10 ^ 4 → n < 10 ^ decimals n
 unfolding decimals
 decimals_hold n small = go (ltb n 10) refl (ltb n 100) refl (ltb n 1000) refl

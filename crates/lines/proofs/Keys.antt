@@ -1,16 +1,20 @@
--- Whether a text begins with a key: then it is the key and what is behind it; and the loop that compares the two byte after byte, in
--- the forms in which the code comes to it. Assumes nothing.
+-- Whether a text begins with a key: then it is the key and what is behind it; and what the library promises of a text without its key.
+-- Assumes nothing.
 use mathlib.Core.Bool.{Bool, true, false, ◌&&◌, false≢true}
 use mathlib.Core.List.{List, [], ◌∷◌, ◌++◌}
 use mathlib.Core.Path.{◌≡◌, refl, sym, ap, ap₂, ◌∙◌}
-use Prim.Native.Nat.{ℕ, ◌+◌, ◌≤◌, ◌<◌}
-use native.Mathlib.Omega.{arith}
+use Prim.Native.Nat.{ℕ, ◌+◌}
+use denote.Ref.{Bor}
 use lib.Dec.{eqb}
-use lib.ListN.{length, drop, get_or, length-append, drop_of_length-le}
-use borrow.Author.Tests.{eqb-true, eq-eqb, ne_eqb}
+use lib.ListN.{length, take, drop}
+use borrow.Author.Tests.{eqb-true, eq-eqb}
+use Rattle.std.specs.Prelude.{Option, Some, None, MatchOption, nat_eq}
+use Rattle.std.specs.Cmp.Lexicographic.{pointwise}
+use Rattle.std.proofs.lemmas.Bool.Decides.{Decides-eqb}
+use Rattle.std.proofs.lemmas.Option.{MatchOption-at_some, MatchOption-at_none}
+use Rattle.std.proofs.lemmas.Slice.Eq.{strip_prefix_is}
 use Rattle.laws.proofs.Tests.{and_left, and_right}
 use Rattle.lines.specs.Reading.{begins}
-use Rattle.lines.proofs.Texts.{drop_next}
 
 -- a key and anything behind it begin with the key
 pub begins_key : (key t : List ℕ) → begins key (key ++ t) ≡ true
@@ -27,37 +31,36 @@ begins_splits (b ∷ key) (c ∷ s) e =
     ap₂ {C = List ℕ} (λ (x : ℕ) (xs : List ℕ). x ∷ xs) (sym (eqb-true b c (and_left (eqb b c) (begins key s) e)))
     (begins_splits key s (and_right (eqb b c) (begins key s) e))
 
--- which is no shorter than the key,
-pub begins_within : (key s : List ℕ) → begins key s ≡ true → length key ≤ length s
-begins_within key s e = omega (arith, ap length (begins_splits key s e) ∙ length-append key (drop (length key) s))
+-- ---- the key taken off a text, as the library does it
 
--- so a shorter one does not begin with it
-pub key_longer : (key s : List ℕ) → length s < length key → false ≡ begins key s
-key_longer key s short = go (begins key s) (begins_within key s)
-  where
-    go : (b : Bool) → (b ≡ true → length key ≤ length s) → false ≡ b
-    go true within = absurd (omega (arith, within refl))
-    go false within = refl
+-- what is promised of the rest
+abbrev pub IsStripped : List ℕ → List ℕ → Option (Bor (List ℕ)) → Type 0
+IsStripped key s r =
+    MatchOption r (pointwise nat_eq (take (length key) s) key ≡ false)
+    (λ x.
+    (pointwise nat_eq (take (length key) s) key ≡ true) × (x.now ≡ drop (length key) s) × (length x.now + length key ≡ length s))
 
--- ---- the loop
+module _ (key s : List ℕ) (r : Option (Bor (List ℕ))) (stripped : IsStripped key s r) where
+  -- none where the text does not begin with it,
+  pub not_begun : r ≡ None → begins key s ≡ false
+  not_begun none = go (begins key s) refl
+    where
+      apart : (rest : List ℕ) → s ≡ key ++ rest → ⊥
+      apart = MatchOption-at_none _ _ none (strip_prefix_is Decides-eqb s key r stripped)
 
-module _ (key s : List ℕ) where
-  module _ (i : ℕ) (so_far : begins key s ≡ begins (drop i key) (drop i s)) where
-    -- all of the key is compared, and the text begins with it,
-    pub all_compared : length key ≤ i → true ≡ begins key s
-    unfolding begins
-    all_compared reached = sym (so_far ∙ ap (λ (k : List ℕ). begins k (drop i s)) (drop_of_length-le key reached))
+      go : (b : Bool) → begins key s ≡ b → begins key s ≡ false
+      go true e = absurd (apart (drop (length key) s) (begins_splits key s e))
+      go false e = e
 
-    module _ (below : i < length key) (within : length key ≤ length s) where
-      -- the test of the rest is that of its first byte and of what follows
-      compared : begins key s ≡ (eqb (get_or key i 0) (get_or s i 0) && begins (drop (i + 1) key) (drop (i + 1) s))
-      unfolding begins
-      compared = so_far ∙ ap₂ begins (drop_next key i below) (drop_next s i (omega arith))
+  module _ (rest : Bor (List ℕ)) (there : r ≡ Some rest) where
+    -- and otherwise what stands behind it
+    pub begun : begins key s ≡ true
+    begun =
+        let whole : s ≡ key ++ rest.now = MatchOption-at_some _ _ rest there (strip_prefix_is Decides-eqb s key r stripped) in
+        ap (begins key) whole ∙ begins_key key rest.now
 
-      -- or the next byte is another, and it does not,
-      pub another_byte : (get_or s i 0 ≡ get_or key i 0 → ⊥) → false ≡ begins key s
-      another_byte other = sym (compared ∙ simp (ne_eqb (get_or key i 0) (get_or s i 0) (λ e. other (sym e))))
+    pub rest_is : rest.now ≡ drop (length key) s
+    rest_is = (MatchOption-at_some _ _ rest there stripped).1
 
-      -- or it is the same
-      pub same_byte : get_or s i 0 ≡ get_or key i 0 → begins key s ≡ begins (drop (i + 1) key) (drop (i + 1) s)
-      same_byte same = compared ∙ simp (eq-eqb (get_or key i 0) (get_or s i 0) (sym same))
+    pub rest_long : length rest.now + length key ≡ length s
+    rest_long = (MatchOption-at_some _ _ rest there stripped).2

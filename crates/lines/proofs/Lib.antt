@@ -1,6 +1,5 @@
 -- The laws about a line, a subject a file: first its bytes and numbers, then reading it and writing it, then what the two are to each
 -- other, and that each promise leaves one outcome.
-pub mod Bytes
 pub mod Texts
 pub mod Forms
 pub mod Numerals
@@ -12,7 +11,6 @@ pub mod Runs
 pub mod Keys
 pub mod RoundTrips
 pub mod Values
-pub mod Overlaid
 pub mod Written
 pub mod Facts
 pub mod Unique

@@ -9,13 +9,14 @@ use lib.Dec.{eqb}
 use lib.ListN.{length, get_or, take, drop, get_or-eq_default}
 use lib.Seq.{split_at, take_at, get_or_at}
 use borrow.Author.Tests.{eqb-true, eq-eqb}
+use Rattle.std.specs.Prelude.{Option, Some, None}
+use Rattle.std.proofs.lemmas.Option.{same_Some}
 use Rattle.laws.proofs.Tests.{and_left, and_right}
 use Rattle.lines.specs.declared.Form.{Form}
 use Rattle.lines.specs.declared.Found.{Found}
-use Rattle.lines.specs.declared.Found.TheVariants.{Value, Nothing}
 use Rattle.lines.specs.Numerals.{digits}
 use Rattle.lines.specs.Lines.{line_feed, base, width, fits}
-use Rattle.lines.specs.Reading.{worth, value, longest, digits_read, value_read, read_value}
+use Rattle.lines.specs.Reading.{worth, value, longest, digits_read, value_read, found, read_value}
 use Rattle.lines.proofs.Forms.{base_some, base_small, width-most, width-holds}
 use Rattle.lines.proofs.Lengths.{length_digits}
 use Rattle.lines.proofs.Numerals.{value-digits}
@@ -48,25 +49,25 @@ module _ (form : Form) (n : ℕ) (rest : List ℕ) where
       ∙ value-digits (base form) (base_some form) (base_small form) (width form n) n (width-holds form n h)
 
   -- so a value of the form is read where it is written
-  pub written-value : fits form n ≡ true → read_value form (ds ++ line_feed ∷ rest) ≡ Value n (width form n + 1)
+  pub written-value : fits form n ≡ true → read_value form (ds ++ line_feed ∷ rest) ≡ Some (found n (width form n + 1))
   unfolding read_value
   written-value h =
       let s = ds ++ line_feed ∷ rest in
-      ap₂ {C = Found} (λ (k v : ℕ). cond (eqb k (width form v) && (fits form v && eqb (get_or s k 0) line_feed)) (Value v (k + 1)) Nothing)
+      ap₂ {C = Option Found} (λ (k v : ℕ). cond (eqb k (width form v) && (fits form v && eqb (get_or s k 0) line_feed)) (Some (found v (k + 1))) None)
       count_read (value_read_lem h)
-      ∙ ap {B = Found} (λ (t : Bool). cond t (Value n (width form n + 1)) Nothing)
+      ∙ ap {B = Option Found} (λ (t : Bool). cond t (Some (found n (width form n + 1))) None)
       (ap₂ (λ (t u : Bool). t && u) (eq-eqb (width form n) (width form n) refl)
       (ap₂ (λ (t u : Bool). t && u) h (eq-eqb (get_or s (width form n) 0) line_feed (get_or_at ds line_feed rest 0 (width form n) long))))
 
 -- ---- what is read
 
 -- what is found under a test is found where the test holds,
-pub found_passed : (t : Bool) (f : Found) (n used : ℕ) → cond t f Nothing ≡ Value n used → t ≡ true
+pub found_passed : (t : Bool) (f : Option Found) (n used : ℕ) → cond t f None ≡ Some (found n used) → t ≡ true
 found_passed true f n used e = refl
 found_passed false f n used e = cc
 
 -- and is what stands under it
-pub found_under : (t : Bool) (f : Found) (n used : ℕ) → cond t f Nothing ≡ Value n used → f ≡ Value n used
+pub found_under : (t : Bool) (f : Option Found) (n used : ℕ) → cond t f None ≡ Some (found n used) → f ≡ Some (found n used)
 found_under true f n used e = e
 found_under false f n used e = cc
 
@@ -87,21 +88,21 @@ module _ (form : Form) (s : List ℕ) where
   abbrev passed : Bool
   passed = whole && (fits form v && ended)
 
-  module _ (n used : ℕ) (e : read_value form s ≡ Value n used) where
+  module _ (n used : ℕ) (e : read_value form s ≡ Some (found n used)) where
     -- where a value is found, they pass, and it is the digits' own
     read_passed : passed ≡ true
     unfolding read_value
-    read_passed = found_passed passed (Value v (k + 1)) n used e
+    read_passed = found_passed passed (Some (found v (k + 1))) n used e
 
-    read_found : Value v (k + 1) ≡ Value n used
+    read_found : found v (k + 1) ≡ found n used
     unfolding read_value
-    read_found = found_under passed (Value v (k + 1)) n used e
+    read_found = same_Some (found v (k + 1)) (found n used) (found_under passed (Some (found v (k + 1))) n used e)
 
     read_value_lem : v ≡ n
-    read_value_lem = cc read_found
+    read_value_lem = ap (λ (f : Found). f.value) read_found
 
     read_used : k + 1 ≡ used
-    read_used = cc read_found
+    read_used = ap (λ (f : Found). f.used) read_found
 
     -- as many digits are read as the value is written with
     read_width : k ≡ width form n

@@ -1,29 +1,27 @@
 -- The digits that a text begins with: how many there are, `run`, and what they are worth, `value`; and the loop that reads them, in
 -- the forms in which the code comes to it. Assumes nothing.
+use mathlib.Core.Bool.{Bool, true, false, cond}
 use mathlib.Core.List.{List, [], ◌∷◌}
 use mathlib.Core.Path.{◌≡◌, refl, sym, ap, ap₂, ◌∙◌, subst}
-use Prim.Native.Nat.{ℕ, zero, suc, ◌+◌, ◌-◌, ◌*◌, ◌^◌, ◌≤◌, ◌<◌}
+use Prim.Native.Nat.{ℕ, zero, suc, ◌+◌, ◌-◌, ◌*◌, ◌^◌, ◌≤◌, ◌<◌, min}
 use native.Mathlib.Nat.{zero-add, sub-zero, pow-zero, pow-suc, pow-le-pow_left, pow-le-pow_right, le_trans, lt_of_lt_of_le, lt_of_le_of_lt}
 use native.Mathlib.Numerals.{add-one}
 use native.Mathlib.Omega.{arith}
 use lib.Arith.{digits_lt}
-use lib.Dec.{lit<}
-use lib.ListN.{length, get_or, take, drop}
-use lib.Seq.{drop-length}
+use lib.Dec.{lit<, ltb}
+use lib.ListN.{length, get_or, take, drop, length-drop}
+use lib.Seq.{length-take-le, get_or-take}
 use mir.Val.{Fits}
 use mir.Syntax.{w64}
-use borrow.Author.Tests.{lt-ltb, le-ltb}
-use Rattle.lines.specs.Reading.{worth, run, value}
+use borrow.Author.Tests.{ltb-true, ltb-false, lt-ltb, le-ltb}
+use Rattle.std.specs.Prelude.{Option, Some, None}
+use Rattle.std.proofs.lemmas.Option.{none-some, cond_some}
+use Rattle.lines.specs.Reading.{worth, digit_in, run, value}
 use Rattle.lines.proofs.Numerals.{value_last}
+use Rattle.lines.proofs.Spans.{run_within}
 use Rattle.lines.proofs.Texts.{drop_next, take_next}
 
 -- ---- how many digits there are
-
--- none where nothing is left
-run_empty : (base most : ℕ) → run base most [] ≡ 0
-unfolding run
-run_empty base zero = refl
-run_empty base (suc most) = refl
 
 -- none where the first byte is no digit in the base
 run_other : (base most b : ℕ) (s : List ℕ) → base ≤ worth b → run base most (b ∷ s) ≡ 0
@@ -36,7 +34,40 @@ run_first : (base most b : ℕ) (s : List ℕ) → worth b < base → run base (
 unfolding run
 run_first base most b s low = simp (lt-ltb (worth b) base low)
 
--- ---- the loop that reads them: `count` digits are read, and more may follow
+-- no more than are asked for
+run_most : (base most : ℕ) (s : List ℕ) → run base most s ≤ most
+unfolding run
+run_most base zero s = omega arith
+run_most base (suc most) [] = omega arith
+run_most base (suc most) (b ∷ s) = go (ltb (worth b) base) (run_most base most s)
+  where
+    go : (x : Bool) → run base most s ≤ most → cond x (suc (run base most s)) 0 ≤ suc most
+    go true later = omega arith
+    go false later = omega arith
+
+-- ---- the digit that a byte is
+
+module _ (base b : ℕ) where
+  -- where it is none, the byte is worth too much;
+  none-high : digit_in base b ≡ None → base ≤ worth b
+  unfolding digit_in
+  none-high none = go (ltb (worth b) base) refl none
+    where
+      go : (x : Bool) → ltb (worth b) base ≡ x → cond x (Some (worth b)) None ≡ None → base ≤ worth b
+      go true e f = absurd (none-some (worth b) (sym f))
+      go false e f = ltb-false (worth b) base e
+
+  -- and else it is what the byte is worth,
+  some-worth : (d : ℕ) → digit_in base b ≡ Some d → d ≡ worth b
+  unfolding digit_in
+  some-worth d some = sym (cond_some (ltb (worth b) base) (worth b) d some).1
+
+  -- which is a digit in the base
+  some-low : (d : ℕ) → digit_in base b ≡ Some d → worth b < base
+  unfolding digit_in
+  some-low d some = ltb-true (worth b) base (cond_some (ltb (worth b) base) (worth b) d some).0
+
+-- ---- the loop that reads them: i digits are read, and more may follow
 
 module _ (base most : ℕ) (s : List ℕ) where
   -- at first none is read, and 0 is below the power with no factor;
@@ -50,49 +81,64 @@ module _ (base most : ℕ) (s : List ℕ) where
   pub none_below : 0 < base ^ 0
   none_below = subst (λ (n : ℕ). 0 < n) (sym (pow-zero base)) (lit< tt)
 
-  module _ (count : ℕ) (counted : run base most s ≡ count + run base (most - count) (drop count s)) where
-    -- where no more follow, all that there are are read
-    stopped : run base (most - count) (drop count s) ≡ 0 → count ≡ run base most s
-    stopped none = omega arith
+  module _ (n : ℕ) (least : n ≡ min (length s) most) where
+    -- the bytes that are looked at
+    looked : length (take n s) ≡ n
+    looked = length-take-le n s (omega arith)
 
-    -- as many as may be are read,
-    pub most_read : most ≤ count → count ≡ run base most s
-    unfolding run
-    most_read reached =
-        let none : most - count ≡ 0 = omega arith in
-        stopped (ap (λ (m : ℕ). run base m (drop count s)) none)
+    module _ (i : ℕ) (read : run base most s ≡ i + run base (most - i) (drop i s)) where
+      -- behind them no digit is read
+      pub all_looked : length (take n s) ≤ i → i ≤ length (take n s) → length (take n s) ≡ run base most s
+      all_looked ended within =
+          omega (arith, looked, run_within base (most - i) (drop i s), run_most base (most - i) (drop i s), length-drop i s)
 
-    -- or the text ends,
-    pub text_read : count ≡ length s → count ≡ run base most s
-    text_read ended =
-        stopped (ap (run base (most - count)) (ap (λ (n : ℕ). drop n s) ended ∙ drop-length s) ∙ run_empty base (most - count))
+      module _ (within : i < length (take n s)) (r : Option ℕ) (is : r ≡ digit_in base (get_or (take n s) i 0)) where
+        in_text : i < length s
+        in_text = omega (arith, looked)
 
-    module _ (next : ℕ) (is : next ≡ worth (get_or s count 0)) (within : count ≤ length s) (not-ended : count ≡ length s → ⊥) where
-      -- the next byte is the first that is left
-      here : drop count s ≡ get_or s count 0 ∷ drop (count + 1) s
-      here = drop_next s count (omega arith)
+        -- the next byte is the first that is left
+        same_byte : get_or (take n s) i 0 ≡ get_or s i 0
+        same_byte = get_or-take n s i 0 (omega (arith, looked))
 
-      -- or the next byte is no digit in the base,
-      pub digits_read_lem : base ≤ next → count ≡ run base most s
-      digits_read_lem high =
-          stopped
-          (ap (run base (most - count)) here
-          ∙ run_other base (most - count) (get_or s count 0) (drop (count + 1) s) (subst (λ (d : ℕ). base ≤ d) is high))
+        here : drop i s ≡ get_or s i 0 ∷ drop (i + 1) s
+        here = drop_next s i in_text
 
-      -- or it is one more, which makes what is read worth this
-      pub one_more_read : count < most → next < base → run base most s ≡ count + 1 + run base (most - (count + 1)) (drop (count + 1) s)
-      one_more_read below low =
-          let left : most - count ≡ suc (most - (count + 1)) = omega arith in
-          let one =
-          ap₂ (run base) left here
-          ∙ run_first base (most - (count + 1)) (get_or s count 0) (drop (count + 1) s) (subst (λ (d : ℕ). d < base) is low) in
-          omega arith
+        read_is : r ≡ digit_in base (get_or s i 0)
+        read_is = is ∙ ap (digit_in base) same_byte
 
-      pub one_more_worth : (n : ℕ) → n ≡ value base 0 (take count s) → n * base + next ≡ value base 0 (take (count + 1) s)
-      one_more_worth n worths =
-          ap₂ (λ (m d : ℕ). m * base + d) worths is
-          ∙ sym (value_last base 0 (take count s) (get_or s count 0))
-          ∙ ap (value base 0) (sym (take_next s count (omega arith)))
+        -- where it is no digit in the base, all are read
+        pub no_digit_read : r ≡ None → i ≡ run base most s
+        no_digit_read none =
+            let over : run base (most - i) (drop i s) ≡ 0 =
+            ap (run base (most - i)) here
+            ∙ run_other base (most - i) (get_or s i 0) (drop (i + 1) s) (none-high base (get_or s i 0) (sym read_is ∙ none)) in
+            omega arith
+
+        module _ (next : ℕ) (some : r ≡ Some next) where
+          -- and otherwise it is one more,
+          pub one_more_read : run base most s ≡ i + 1 + run base (most - (i + 1)) (drop (i + 1) s)
+          one_more_read =
+              let left : most - i ≡ suc (most - (i + 1)) = omega (arith, looked) in
+              let one =
+              ap₂ (run base) left here
+              ∙ run_first base (most - (i + 1)) (get_or s i 0) (drop (i + 1) s) (some-low base (get_or s i 0) next (sym read_is ∙ some)) in
+              omega arith
+
+          -- which makes what is read worth this,
+          pub one_more_worth : (v : ℕ) → v ≡ value base 0 (take i s) → v * base + next ≡ value base 0 (take (i + 1) s)
+          one_more_worth v worths =
+              ap₂ (λ (m d : ℕ). m * base + d) worths (some-worth base (get_or s i 0) next (sym read_is ∙ some))
+              ∙ sym (value_last base 0 (take i s) (get_or s i 0))
+              ∙ ap (value base 0) (sym (take_next s i in_text))
+
+          -- and is below the base
+          pub next_below : next < base
+          next_below =
+              subst (λ (d : ℕ). d < base) (sym (some-worth base (get_or s i 0) next (sym read_is ∙ some)))
+              (some-low base (get_or s i 0) next (sym read_is ∙ some))
+
+          pub looked_below : i < most
+          looked_below = omega (arith, looked)
 
 -- ---- what is read fits a word
 

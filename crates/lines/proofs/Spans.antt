@@ -49,7 +49,7 @@ module _ (base : ℕ) where
       (run_whole ds b t most (and_right (is_digit d) (every is_digit ds) all) none (le_of_suc-le-suc h))
 
   -- no more are counted than there are
-  run_within : (most : ℕ) (s : List ℕ) → run base most s ≤ length s
+  pub run_within : (most : ℕ) (s : List ℕ) → run base most s ≤ length s
   unfolding run
   run_within zero s = zero-le
   run_within (suc most) [] = zero-le

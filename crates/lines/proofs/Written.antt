@@ -1,28 +1,31 @@
--- A line as it is written: the loop that writes the digits from the last to the first, the line feed behind them, and the whole
--- line. Assumes nothing.
+-- A line as it is written: bytes laid over a buffer, the loop that writes the digits from the last to the first, the line feed behind
+-- them, and the whole line. Assumes nothing.
 use mathlib.Core.Bool.{Bool, cond}
 use mathlib.Core.List.{List, [], ◌∷◌, ◌++◌}
 use mathlib.Core.Path.{◌≡◌, refl, sym, ap, ◌∙◌, subst}
 use Prim.Native.Nat.{ℕ, suc, ◌+◌, ◌-◌, ◌/◌, ◌%◌, ◌≤◌, ◌<◌}
-use native.Mathlib.Nat.{le_refl, mod-lt}
+use native.Mathlib.Nat.{le_refl}
 use native.Mathlib.Omega.{arith}
 use lib.ListN.{length, set, take, drop, length-append, take-append-drop}
 use lib.Seq.{take_all}
 use borrow.Author.Tests.{le-leb, lt-leb}
 use borrow.Rule.Slice.PartMut.{mid_of, put_mid}
+use Rattle.std.specs.Prelude.{Some, None}
 use Rattle.laws.specs.Lists.{over}
-use Rattle.laws.proofs.Overlays.{length_over, drop-over, get_or-over, one_more_down, over-one_more, over_long, over_part}
+use Rattle.laws.proofs.Overlays.{over-fits, length_over, drop-over, get_or-over, one_more_down, over-one_more, over_long, over_part}
 use Rattle.lines.specs.declared.Form.{Form}
 use Rattle.lines.specs.Numerals.{digit, digits}
 use Rattle.lines.specs.Lines.{line_feed, base, width, line, taken}
 use Rattle.lines.proofs.Lengths.{length_digits, length-line}
 use Rattle.lines.proofs.Numbers.{last_digit_lem, other_digits}
 
--- ---- digits
+-- ---- bytes
 
--- a digit of a base that digits can be written in has a byte
-pub digit-below : (n base : ℕ) → 0 < base → base ≤ 16 → n % base < 16
-digit-below n base least most = let below : n % base < base = mod-lt n least in omega arith
+-- they are laid over a buffer that has room for them by taking its first bytes' place
+pub laid_over : (bytes old part : List ℕ) → length bytes ≤ length old → part ≡ bytes → part ++ drop (length bytes) old ≡ over bytes old
+laid_over bytes old part room same = ap (λ (l : List ℕ). l ++ drop (length bytes) old) same ∙ sym (over-fits bytes old room)
+
+-- ---- digits
 
 module _ (base k n : ℕ) (old : List ℕ) where
   -- before the first turn all digits are left,
@@ -82,14 +85,14 @@ value_written form b k n old out is room are =
 -- ---- a line
 
 -- a line takes its own length of a buffer that is as long,
-pub taken_all : (l out : List ℕ) → length l ≤ length out → taken l out ≡ length l
+pub taken_all : (l out : List ℕ) → length l ≤ length out → taken l out ≡ Some (length l)
 unfolding taken
-taken_all l out fits = ap (λ (b : Bool). cond b (length l) 0) (le-leb (length l) (length out) fits)
+taken_all l out fits = ap (λ (b : Bool). cond b (Some (length l)) None) (le-leb (length l) (length out) fits)
 
 -- and nothing of a shorter one
-taken_none : (l out : List ℕ) → length out < length l → taken l out ≡ 0
+taken_none : (l out : List ℕ) → length out < length l → taken l out ≡ None
 unfolding taken
-taken_none l out long = ap (λ (b : Bool). cond b (length l) 0) (lt-leb (length l) (length out) long)
+taken_none l out long = ap (λ (b : Bool). cond b (Some (length l)) None) (lt-leb (length l) (length out) long)
 
 module _ (key : List ℕ) (form : Form) (n : ℕ) (old : List ℕ) (size : ℕ) (is : size ≡ width form n) where
   module _ (long : length old < length key + size + 1) where
@@ -97,7 +100,7 @@ module _ (key : List ℕ) (form : Form) (n : ℕ) (old : List ℕ) (size : ℕ) 
     longer = omega (arith, length-line key form n)
 
     -- where the line is longer than the buffer, nothing is taken
-    none-taken : 0 ≡ taken (line key form n) old
+    none-taken : None ≡ taken (line key form n) old
     none-taken = sym (taken_none (line key form n) old longer)
 
     -- and nothing has changed
@@ -105,7 +108,7 @@ module _ (key : List ℕ) (form : Form) (n : ℕ) (old : List ℕ) (size : ℕ) 
     old_kept = sym (over_long (line key form n) old longer)
 
   -- so where the key alone is longer: nothing is taken,
-  pub key_taken : length old < length key → 0 ≡ taken (line key form n) old
+  pub key_taken : length old < length key → None ≡ taken (line key form n) old
   key_taken long = none-taken (omega arith)
 
   -- and nothing has changed
@@ -113,7 +116,7 @@ module _ (key : List ℕ) (form : Form) (n : ℕ) (old : List ℕ) (size : ℕ) 
   key_kept long = old_kept (omega arith)
 
   -- and where the value with its line feed is longer than what the key leaves: nothing is taken,
-  pub value_taken : length key ≤ length old → length old - length key ≤ size → 0 ≡ taken (line key form n) old
+  pub value_taken : length key ≤ length old → length old - length key ≤ size → None ≡ taken (line key form n) old
   value_taken fits long = none-taken (omega arith)
 
   -- and nothing has changed
@@ -122,8 +125,10 @@ module _ (key : List ℕ) (form : Form) (n : ℕ) (old : List ℕ) (size : ℕ) 
 
   module _ (fits : length key ≤ length old) (room : size < length old - length key) where
     -- where neither is, the line is taken whole,
-    pub line_taken : length key + size + 1 ≡ taken (line key form n) old
-    line_taken = omega (arith, length-line key form n, taken_all (line key form n) old (omega (arith, length-line key form n)))
+    pub line_taken : Some (length key + size + 1) ≡ taken (line key form n) old
+    line_taken =
+        let long : length key + size + 1 ≡ length (line key form n) = omega (arith, length-line key form n) in
+        ap (λ (m : ℕ). Some m) long ∙ sym (taken_all (line key form n) old (omega (arith, length-line key form n)))
 
     -- and written: the key first, then the value in the part behind it
     pub line-written : (mid part : List ℕ) → mid ≡ over key old

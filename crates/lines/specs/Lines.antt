@@ -1,5 +1,5 @@
 -- A line: a key, its value and a line feed (document 01, "The job text"). A key is meant with its equals sign. Assumes nothing.
-use Rattle.std.specs.Prelude.{Bool, cond, ◌&&◌, List, [], ◌∷◌, ◌++◌, ℕ, ◌^◌, leb, ltb, length}
+use Rattle.std.specs.Prelude.{Bool, cond, ◌&&◌, List, [], ◌∷◌, ◌++◌, ℕ, ◌^◌, leb, ltb, length, Option, Some, None}
 use Rattle.lines.specs.declared.Form.{Form}
 use Rattle.lines.specs.declared.Form.TheVariants.{Number, Word}
 use Rattle.lines.specs.Numerals.{digits, decimals}
@@ -27,5 +27,5 @@ unfoldable pub line : List ℕ → Form → ℕ → List ℕ
 line key form n = key ++ (digits (base form) (width form n) n ++ (line_feed ∷ []))
 
 -- how many bytes of a buffer it takes: all of its own, or none where the buffer is shorter
-unfoldable pub taken : List ℕ → List ℕ → ℕ
-taken l out = cond (leb (length l) (length out)) (length l) 0
+unfoldable pub taken : List ℕ → List ℕ → Option ℕ
+taken l out = cond (leb (length l) (length out)) (Some (length l)) None

@@ -5,13 +5,14 @@
 
 mod digits;
 mod reading;
+mod widths;
 mod writing;
 
 pub use reading::read_line;
 pub use writing::{lay_over, write_line};
 
 // The byte that ends a line.
-const LINE_FEED: u8 = 10;
+const LINE_FEED: u8 = b'\n';
 
 // The form of a line's value: a decimal number, no larger than is said and of four digits at most, or a
 // word of sixteen hexadecimal digits.
@@ -21,9 +22,9 @@ pub enum Form {
     Word,
 }
 
-// What a text begins with: a line with this value that takes this many bytes, or no such line.
+// A line that a text begins with: its value, and how many bytes it takes.
 #[derive(Clone, Copy)]
-pub enum Found {
-    Value(u64, usize),
-    Nothing,
+pub struct Found {
+    pub value: u64,
+    pub used: usize,
 }

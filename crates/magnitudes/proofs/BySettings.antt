@@ -2,14 +2,14 @@
 -- branches leave its parts. Assumes nothing.
 use mathlib.Core.Bool.{Bool, true, false, cond}
 use mathlib.Core.Path.{◌≡◌, sym, ap, ap₂, ◌∙◌}
-use Prim.Native.Nat.{ℕ, ◌+◌, ◌-◌, ◌*◌, ◌/◌, ◌%◌, ◌^◌, ◌≤◌, ◌<◌, min}
+use Prim.Native.Nat.{ℕ, ◌+◌, ◌-◌, ◌*◌, ◌/◌, ◌%◌, ◌^◌, ◌≤◌, ◌<◌, min, max}
 use native.Mathlib.Nat.{mod-eq_of_lt, lt_of_le_of_lt, div-mul-le_self}
 use native.Mathlib.Omega.{arith}
 use mir.Val.{Fits}
 use mir.Syntax.{w64}
 use lib.Dec.{leb, ltb}
 use lib.Pow.{pow_pos, pow_mono, shr_le}
-use borrow.Author.Tests.{lt-ltb, le-ltb}
+use borrow.Author.Tests.{leb-true, lt-ltb, le-ltb}
 use Rattle.laws.proofs.Words.{one_shifted}
 use Rattle.patterns.specs.Patterns.{sign, mag, infinity, ex, sig, digits_of}
 use Rattle.places.specs.Places.{high}
@@ -27,17 +27,9 @@ module _ (cut emin bottom m n : ℕ) (counted : n ≡ digits_of m) where
   unfolding place
   place_normal h = sym (ap (λ (b : Bool). cond b cut (bottom - ex m)) (ap (ltb emin) (sym counted) ∙ lt-ltb emin n h))
 
-  module _ (small : n ≤ emin) where
-    pub place-below_normal : bottom - ex m ≡ place cut emin bottom m
-    unfolding place
-    place-below_normal = sym (ap (λ (b : Bool). cond b cut (bottom - ex m)) (ap (ltb emin) (sym counted) ∙ le-ltb emin n small))
-
-    module _ (e : ℕ) (shift : e ≡ ex m) where
-      pub place_under : bottom - e ≡ place cut emin bottom m
-      place_under = ap (λ (k : ℕ). bottom - k) shift ∙ place-below_normal
-
-      pub place_bottom : bottom ≤ e → 0 ≡ place cut emin bottom m
-      place_bottom h = omega (arith, place_under)
+  pub place-below_normal : n ≤ emin → bottom - ex m ≡ place cut emin bottom m
+  unfolding place
+  place-below_normal small = sym (ap (λ (b : Bool). cond b cut (bottom - ex m)) (ap (ltb emin) (sym counted) ∙ le-ltb emin n small))
 
 -- ---- where a digit is kept
 
@@ -61,49 +53,33 @@ module _ (mode : Mode) (negative : Bool) (word m d i n : ℕ) (below : m < 2 ^ 6
 
 -- ---- where none is kept
 
-module _ (n k h : ℕ) (cut : h ≡ high n k) where
-  pub trace_of_nothing : h ≡ 0 → 1 ≡ trace n k
-  unfolding trace
-  trace_of_nothing z = omega arith
-
-  pub trace_of_something : (h ≡ 0 → ⊥) → h ≡ trace n k
-  unfolding trace
-  trace_of_something z = omega arith
-
-module _ (mode : Mode) (negative : Bool) (word m d c t i n : ℕ) (near : c ≡ min d 63) (whole : n ≡ sig m) (rest : t ≡ trace n (d - c))
+module _ (mode : Mode) (negative : Bool) (word m d c h t i n : ℕ) (near : c ≡ min d 63) (whole : n ≡ sig m) (cut : h ≡ high n (d - c))
     (e : i ≡ increment mode negative 0 (2 ^ c) word) where
-  -- the sum fits a word
-  pub reached-fits : Fits w64 (t + i)
-  unfolding trace high
-  reached-fits =
+  -- the sum fits a word, whether 1 is the least that stays or 0
+  pub reached-fits : (least : ℕ) → leb least 1 ≡ true → t ≡ max h least → Fits w64 (t + i)
+  unfolding high
+  reached-fits least few rest =
       let small = increment-below mode negative 0 (2 ^ c) word (pow_pos c) in
       let most : 2 ^ c ≤ 2 ^ 63 = pow_mono {i = c} {j = 63} (omega arith) in
       let less : n / 2 ^ (d - c) ≤ n = shr_le n (d - c) in
+      let one : least ≤ 1 = leb-true least 1 few in
       record { fits = omega arith }
 
-  pub reached_is : leb (1 * 2 ^ c % 2 ^ 64) (t + i) ≡ reached mode negative word m d
-  unfolding reached
-  reached_is =
+  pub reached_is : t ≡ max h 1 → leb (1 * 2 ^ c % 2 ^ 64) (t + i) ≡ reached mode negative word m d
+  unfolding reached trace
+  reached_is rest =
       let placed : 2 ^ c ≡ 2 ^ min d 63 = ap (λ (k : ℕ). 2 ^ k) near in
+      let traced : t ≡ trace n (d - c) = omega (arith, rest, cut) in
       let held = ap₂ (λ (x k : ℕ). trace x (d - k)) whole near in
       let added = ap (λ (k : ℕ). increment mode negative 0 (2 ^ k) word) near in
-      ap₂ leb (one_shifted 64 c (omega arith) ∙ placed) (ap₂ (λ (x y : ℕ). x + y) (rest ∙ held) (e ∙ added))
+      ap₂ leb (one_shifted 64 c (omega arith) ∙ placed) (ap₂ (λ (x y : ℕ). x + y) (traced ∙ held) (e ∙ added))
 
--- ---- below T, by the place
+-- ---- below T, where a digit is kept
 
-module _ (s : Settings) (negative : Bool) (word m d : ℕ) (at : d ≡ place s.cut s.emin s.bottom m) where
-  pub moved-kept : d < 53 → (y : ℕ) → y ≡ kept s.mode negative word m d → y ≡ moved s negative word m
-  unfolding moved
-  moved-kept h y e = simp (← at, lt-ltb d 53 h, e)
-
-  module _ (far : 53 ≤ d) (b : Bool) (e : b ≡ reached s.mode negative word m d) where
-    pub moved_to_zeta : b ≡ true → s.zeta ≡ moved s negative word m
-    unfolding moved
-    moved_to_zeta h = simp (← at, le-ltb d 53 far, ← e, h)
-
-    pub moved_to_nothing : b ≡ false → 0 ≡ moved s negative word m
-    unfolding moved
-    moved_to_nothing h = simp (← at, le-ltb d 53 far, ← e, h)
+pub moved-kept : (s : Settings) (negative : Bool) (word m d : ℕ) → d ≡ place s.cut s.emin s.bottom m → d < 53
+    → (y : ℕ) → y ≡ kept s.mode negative word m d → y ≡ moved s negative word m
+unfolding moved
+moved-kept s negative word m d at h y e = simp (← at, lt-ltb d 53 h, e)
 
 -- ---- the magnitude of a pattern, by its sign
 

@@ -1,67 +1,37 @@
--- The increments, a mode after the other, as the code makes them: below place d of a word of w bits, where the digits below
+-- The increments as the code makes them: below place d of a word of w bits, where the digits below
 -- the place are `1 * 2 ^ d % 2 ^ w - 1`. Assumes nothing.
-use mathlib.Core.Bool.{Bool, not, cond}
+use mathlib.Core.Bool.{Bool}
 use mathlib.Core.Path.{◌≡◌, sym, ap, ap₂, ◌∙◌}
 use Prim.Native.Nat.{ℕ, suc, ◌+◌, ◌-◌, ◌*◌, ◌/◌, ◌%◌, ◌^◌, ◌≤◌, ◌<◌}
 use native.Mathlib.Nat.{add_comm}
 use native.Mathlib.Omega.{arith}
 use lib.Bits.{bit_and}
-use lib.Dec.{eqb}
 use lib.Pow.{mod-mod-pow}
 use Rattle.laws.proofs.Scales.{zeros_add, scale_div, scale_mod}
 use Rattle.laws.proofs.Words.{one_shifted, low_past, low_masked}
 use Rattle.places.specs.Places.{high}
 use Rattle.magnitudes.specs.declared.Mode.{Mode}
-use Rattle.magnitudes.specs.declared.Mode.TheVariants.{TiesToEven, TiesToZero, TiesAway, TowardZero, TowardPlus, TowardMinus, ToOdd, Stochastic, EvenChance}
+use Rattle.magnitudes.specs.declared.Mode.TheVariants.{TiesToEven, ToOdd}
 use Rattle.magnitudes.specs.Modes.{u}
 use Rattle.magnitudes.specs.Increments.{increment}
 
 -- ---- the digits below a place
 
 module _ (w d : ℕ) (fits : d < w) where
-  digits-below : 1 * 2 ^ d % 2 ^ w - 1 ≡ 2 ^ d - 1
-  digits-below = ap (λ (x : ℕ). x - 1) (one_shifted w d fits)
+  digits_below : 1 * 2 ^ d % 2 ^ w - 1 ≡ 2 ^ d - 1
+  digits_below = ap (λ (x : ℕ). x - 1) (one_shifted w d fits)
 
-  -- ---- the rows of the table
+  -- ---- the rows of the table that take a remainder, by a mask
 
   module _ (mode : Mode) (negative : Bool) (m word : ℕ) where
-    module _ (y : ℕ) where
-      pub toward_plus_adds : mode ≡ TowardPlus → y ≡ cond (not negative) (1 * 2 ^ d % 2 ^ w - 1) 0 → y ≡ increment mode negative m (2 ^ d) word
-      unfolding increment
-      toward_plus_adds is e = simp (e, is, digits-below)
-
-      pub toward_minus_adds : mode ≡ TowardMinus → y ≡ cond negative (1 * 2 ^ d % 2 ^ w - 1) 0 → y ≡ increment mode negative m (2 ^ d) word
-      unfolding increment
-      toward_minus_adds is e = simp (e, is, digits-below)
-
-      pub stochastic_adds : (r : ℕ) → mode ≡ Stochastic r → y ≡ u r word * 2 ^ d / 2 ^ r → y ≡ increment mode negative m (2 ^ d) word
-      unfolding increment
-      stochastic_adds r is e = simp (e, is)
-
-      pub even_chance_adds : mode ≡ EvenChance → y ≡ cond (eqb (word % 2) 1) (1 * 2 ^ d % 2 ^ w - 1) 0 → y ≡ increment mode negative m (2 ^ d) word
-      unfolding increment
-      even_chance_adds is e = simp (e, is, digits-below)
-
     pub ties_to_even_adds :
         mode ≡ TiesToEven → bit_and ((1 * 2 ^ d % 2 ^ w - 1) / 2 + m % 2) (1 * 2 ^ d % 2 ^ w - 1) ≡ increment mode negative m (2 ^ d) word
     unfolding increment
-    ties_to_even_adds is = low_masked w ((1 * 2 ^ d % 2 ^ w - 1) / 2 + m % 2) d fits ∙ simp (is, digits-below)
-
-    pub ties_to_zero_adds : mode ≡ TiesToZero → (1 * 2 ^ d % 2 ^ w - 1) / 2 ≡ increment mode negative m (2 ^ d) word
-    unfolding increment
-    ties_to_zero_adds is = simp (is, digits-below)
-
-    pub ties_away_adds : mode ≡ TiesAway → 1 * 2 ^ d % 2 ^ w / 2 ≡ increment mode negative m (2 ^ d) word
-    unfolding increment
-    ties_away_adds is = simp (is, one_shifted w d fits)
-
-    pub toward_zero_adds : mode ≡ TowardZero → 0 ≡ increment mode negative m (2 ^ d) word
-    unfolding increment
-    toward_zero_adds is = simp is
+    ties_to_even_adds is = low_masked w ((1 * 2 ^ d % 2 ^ w - 1) / 2 + m % 2) d fits ∙ simp (is, digits_below)
 
     pub to_odd_adds : mode ≡ ToOdd → bit_and (1 * 2 ^ d % 2 ^ w - 1 + m % 2) (1 * 2 ^ d % 2 ^ w - 1) ≡ increment mode negative m (2 ^ d) word
     unfolding increment
-    to_odd_adds is = low_masked w (1 * 2 ^ d % 2 ^ w - 1 + m % 2) d fits ∙ simp (is, digits-below)
+    to_odd_adds is = low_masked w (1 * 2 ^ d % 2 ^ w - 1 + m % 2) d fits ∙ simp (is, digits_below)
 
 -- ---- the share of mode 7
 

@@ -3,7 +3,7 @@ use mathlib.Core.Bool.{false}
 use mathlib.Core.Path.{◌≡◌, refl, sym, ap, ◌∙◌}
 use Prim.Native.Nat.{ℕ, zero, suc, ◌<◌}
 use native.Mathlib.Omega.{arith}
-use Rattle.magnitudes.specs.declared.Mode.TheVariants.{Stochastic, EvenChance}
+use Rattle.magnitudes.specs.declared.Mode.TheVariants.{EvenChance}
 use Rattle.magnitudes.specs.Modes.{mode_of, uses_word}
 
 -- what holds for each number up to 7, and for all above, holds for every number
@@ -18,12 +18,7 @@ number_cases P a b c d e f g h above (suc (suc (suc (suc (suc (suc zero)))))) = 
 number_cases P a b c d e f g h above (suc (suc (suc (suc (suc (suc (suc zero))))))) = h
 number_cases P a b c d e f g h above (suc (suc (suc (suc (suc (suc (suc (suc n)))))))) = above n
 
--- number 7 keeps r
-pub mode_stochastic : (n r : ℕ) → n ≡ 7 → Stochastic r ≡ mode_of n r
-unfolding mode_of
-mode_stochastic n r e = sym (ap (λ (i : ℕ). mode_of i r) e)
-
--- above it there is the last mode only
+-- above 7 there is the last mode only
 pub mode_above : (n r : ℕ) → EvenChance ≡ mode_of (suc (suc (suc (suc (suc (suc (suc (suc n)))))))) r
 unfolding mode_of
 mode_above zero r = refl

@@ -5,15 +5,16 @@ ghost use Rattle.patterns.specs.Patterns.{sign, mag, with_sign, kind_of, ex, sig
 use super::Kind;
 
 // The sign bit.
-const SIGN: u64 = 0x8000_0000_0000_0000;
+pub const SIGN: u64 = 0x8000_0000_0000_0000;
 
 // The magnitude pattern of infinity.
-const INFINITY: u64 = 0x7FF0_0000_0000_0000;
+pub const INFINITY: u64 = 0x7FF0_0000_0000_0000;
 
 // The one in front of a normal number's fraction, which is also the smallest normal pattern.
 const HIDDEN: u64 = 0x0010_0000_0000_0000;
 
 // Whether the sign bit is set.
+#[tactic(auto, unfolding(crate::specs::Patterns::sign))]
 pub fn sign_of(x: u64) -> bool
     ensures { result ≡ sign x }
 {
@@ -21,6 +22,7 @@ pub fn sign_of(x: u64) -> bool
 }
 
 // The pattern without its sign.
+#[tactic(auto, unfolding(crate::specs::Patterns::mag))]
 pub fn magnitude_of(x: u64) -> u64
     ensures { result ≡ mag x }
 {
@@ -35,6 +37,7 @@ pub fn with_sign(x: u64, m: u64) -> u64
 }
 
 // What the pattern is: zero, a finite number, infinity or NaN.
+#[tactic(auto, unfolding(crate::specs::Patterns::kind_of))]
 pub fn kind_of(x: u64) -> Kind
     ensures { result ≡ kind_of x }
 {
@@ -56,11 +59,7 @@ pub fn kind_of(x: u64) -> Kind
 pub fn exponent_of(m: u64) -> u64
     ensures { result ≡ ex m }
 {
-    let field = m >> 52;
-    if field == 0 {
-        return 0;
-    }
-    field - 1
+    (m >> 52).saturating_sub(1)
 }
 
 // The significand, with the one that stands in front of a normal number's fraction.
@@ -76,7 +75,7 @@ pub fn digits_of(m: u64) -> u64
     ensures { result ≡ digits_of m }
 {
     if m < HIDDEN {
-        return 64 - u64::leading_zeros(m) as u64;
+        return 64 - m.leading_zeros() as u64;
     }
     (m >> 52) + 52
 }

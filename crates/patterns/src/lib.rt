@@ -5,8 +5,8 @@
 mod binary64;
 
 pub use binary64::{
-    digits_of, exponent_of, kind_of, magnitude_of, power_pattern, sign_of, significand_of,
-    with_sign,
+    INFINITY, SIGN, digits_of, exponent_of, kind_of, magnitude_of, power_pattern, sign_of,
+    significand_of, with_sign,
 };
 
 // What a binary64 pattern is, whatever its sign. Finite leaves out zero.

@@ -1,5 +1,6 @@
 // Numbers cut in two at a place, and numbers moved up in their word. Any place may be asked for: past the
-// last digit nothing is high, and nothing stays of what is moved past the word. The contracts cite the
+// last digit nothing is high, and nothing stays of what is moved past the word. A place is a word, and the
+// library's checked shifts take a shorter number, so the place is compared here. The contracts cite the
 // definitions in specs/Places.antt. Every function here answers for all inputs.
 #![tactic(auto)]
 

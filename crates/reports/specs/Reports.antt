@@ -1,7 +1,10 @@
 -- What an array call reports: a refusal that is about no place, and the lowest place whose entry is refused (document 01, "Refusal
 -- numbers"), as it is computed and as a property. That the computed report has the property, and no other has it, is said by the
 -- laws `first_refused_lowest` and `first_refused_only`. Assumes nothing.
-use Rattle.std.specs.Prelude.{cond, List, [], ◌∷◌, ◌≡◌, ℕ, suc, ◌<◌, eqb, length, get_or}
+use Rattle.std.specs.Prelude.{cond, List, [], ◌∷◌, ◌≡◌, ℕ, suc, ◌<◌, eqb, length, get_or, Result, Ok, Err}
+use Rattle.refusals.specs.declared.Refusal.{Refusal}
+use Rattle.refusals.specs.Refusals.{number_of}
+use Rattle.reports.specs.declared.Refused.{Refused}
 use Rattle.reports.specs.declared.Report.{Report}
 
 -- a refusal that is about no place; and number 0, where nothing is refused
@@ -11,6 +14,15 @@ report number = record { number = number; place = 0 }
 -- a refusal that is about a place
 abbrev pub report_at : ℕ → ℕ → Report
 report_at number place = record { number = number; place = place }
+
+-- a refusal that is about no place
+abbrev pub at_no_place : Refusal → Refused
+at_no_place refusal = record { refusal = refusal; place = 0 }
+
+-- what a call came to, by number
+abbrev pub reported_by : Result Unit Refused → Report
+reported_by (Ok done) = report 0
+reported_by (Err refused) = report_at (number_of refused.refusal) refused.place
 
 -- The first entry that a rule refuses: the rule gives each entry the number of its refusal, 0 for none. Answered are that number
 -- and the entry's place, where the list begins at place i; or number 0 and place 0, where the rule refuses no entry.

@@ -2,7 +2,7 @@
 use mathlib.Core.Path.{◌≡◌}
 use Prim.Native.Nat.{ℕ}
 use Rattle.patterns.specs.declared.Kind.{Kind}
-use Rattle.patterns.specs.declared.Kind.TheVariants.{Zero, Finite, Infinity, NaN}
+use Rattle.patterns.specs.declared.Kind.TheVariants.{Zero, Finite, NaN}
 use Rattle.patterns.specs.Patterns.{sign, mag, with_sign, kind_of}
 use Rattle.magnitudes.specs.declared.Settings.{Settings}
 use Rattle.magnitudes.specs.BySettings.{goes_to_by}
@@ -13,10 +13,6 @@ module _ (s : Settings) (word x : ℕ) (k : Kind) (e : k ≡ kind_of x) where
   pub zero_back : k ≡ Zero → x ≡ rounded_by s word x
   unfolding rounded_by answer_to
   zero_back is = simp (← e, is)
-
-  pub infinity_back : k ≡ Infinity → x ≡ rounded_by s word x
-  unfolding rounded_by answer_to
-  infinity_back is = simp (← e, is)
 
   pub nan_back : k ≡ NaN → x ≡ rounded_by s word x
   unfolding rounded_by answer_to

@@ -4,10 +4,13 @@ use mathlib.Core.Path.{◌≡◌, refl, sym, ap}
 use Prim.Native.Nat.{ℕ}
 use lib.Dec.{eqb}
 use borrow.Author.Tests.{eqb-true}
+use Rattle.std.specs.Prelude.{Result}
+use Rattle.refusals.specs.declared.Refusal.{Refusal}
+use Rattle.refusals.specs.Refusals.{in_numbers}
+use Rattle.refusals.proofs.Apart.{results_apart}
+use Rattle.magnitudes.specs.declared.Mode.TheVariants.{TiesToEven}
 use Rattle.magnitudes.specs.declared.Settings.{Settings}
-use Rattle.rounding.specs.declared.Prepared.{Prepared}
-use Rattle.rounding.specs.declared.Prepared.TheVariants.{Ready, Refused}
-use Rattle.rounding.specs.BySettings.{unless_refused, number_of}
+use Rattle.rounding.specs.BySettings.{Prepared, Ready, Refused, unless_refused, number_of}
 
 abbrev is_ready : Prepared → Bool
 is_ready (Ready s) = true
@@ -16,6 +19,15 @@ is_ready (Refused n) = false
 abbrev settings_in : Settings → Prepared → Settings
 settings_in other (Ready s) = s
 settings_in other (Refused n) = other
+
+-- settings of no format
+abbrev no_settings : Settings
+no_settings = record { mode = TiesToEven; cut = 0; emin = 0; bottom = 0; zeta = 0; xmax = 0; top = 0 }
+
+-- two calls that prepared the same came to the same
+pub preparations_apart : (r s : Result Settings Refusal) → in_numbers Ready Refused r ≡ in_numbers Ready Refused s → r ≡ s
+unfolding number_of
+preparations_apart = results_apart Ready Refused number_of (settings_in no_settings) (λ t. refl) (λ n. refl) (λ t. refl)
 
 module _ (n : ℕ) (t : Settings) where
   -- where settings came out, nothing is refused, and they are those that were put in

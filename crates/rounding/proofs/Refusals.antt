@@ -1,65 +1,67 @@
 -- The refusals, as the code comes to them, and what a call that is not refused may lean on. Assumes nothing.
 use mathlib.Core.Bool.{Bool, true, false, cond, not, ◌&&◌}
 use mathlib.Core.Path.{◌≡◌, refl, sym, ap, ◌∙◌, subst}
-use Prim.Native.Nat.{ℕ, suc, ◌≤◌, ◌<◌}
+use Prim.Native.Nat.{ℕ, suc, ◌≤◌}
 use native.Mathlib.Omega.{arith}
-use lib.Dec.{ltb, eqb}
-use borrow.Author.Tests.{lt-ltb, le-ltb, eq-eqb, ne_eqb}
+use lib.Dec.{ltb}
+use borrow.Author.Tests.{ne_eqb}
+use Rattle.refusals.specs.declared.Refusal.{Refusal}
+use Rattle.refusals.specs.Refusals.{number_of}
+use Rattle.refusals.proofs.Apart.{number_some}
 use Rattle.grid.specs.declared.Format.{Format}
-use Rattle.grid.specs.Formats.{between, precision_fits, exponent_fits, in_range, InRange}
+use Rattle.grid.specs.Formats.{between, precision_fits, exponent_fits, in_range, range_refusal, InRange}
 use Rattle.grid.proofs.Ranges.{between_least, between-most, in_range_bounds}
 use Rattle.magnitudes.specs.declared.Mode.{Mode}
 use Rattle.magnitudes.specs.declared.Mode.TheVariants.{TiesToEven, TiesToZero, TiesAway, TowardZero, TowardPlus, TowardMinus, ToOdd, Stochastic, EvenChance}
 use Rattle.magnitudes.specs.Modes.{mode_of, ModeFits}
 use Rattle.magnitudes.proofs.ModeTables.{number_cases, mode_above}
-use Rattle.rounding.specs.Calls.{bits_fit, refusal}
+use Rattle.rounding.specs.Calls.{bits_fit, mode_refusal, refusal}
 
 -- ---- one test after the other
 
-module _ (f : Format) (mode r : ℕ) (p : Bool) (p-tested : p ≡ precision_fits f.p) where
-  pub refuses_precision : not p ≡ true → 1 ≡ refusal f mode r
+-- what is refused first stays the first refusal, whatever comes after it
+in_order-some : (p x : Bool) (n rest : ℕ) → (n ≡ 0 → ⊥) → n ≡ cond p 1 (cond x 2 0) → n ≡ cond p 1 (cond x 2 rest)
+in_order-some true x n rest some is = is
+in_order-some false true n rest some is = is
+in_order-some false false n rest some is = absurd (some is)
+
+-- and where nothing is, what comes after it decides
+in_order-none : (p x : Bool) (n rest : ℕ) → ◌≡◌ {A = ℕ} 0 (cond p 1 (cond x 2 0)) → n ≡ rest → n ≡ cond p 1 (cond x 2 rest)
+in_order-none true x n rest none is = absurd (omega (arith, none))
+in_order-none false true n rest none is = absurd (omega (arith, none))
+in_order-none false false n rest none is = is
+
+module _ (f : Format) (mode r : ℕ) where
+  pub by_range : (e : Refusal) → number_of e ≡ range_refusal f → number_of e ≡ refusal f mode r
   unfolding refusal
-  refuses_precision p-fails = simp (← p-tested, p-fails)
+  by_range e is = in_order-some (not (precision_fits f.p)) (not (exponent_fits f.emax)) (number_of e) (mode_refusal mode r) (number_some e) is
 
-  module _ (p-fits : not p ≡ false) (x : Bool) (x-tested : x ≡ exponent_fits f.emax) where
-    pub refuses_exponent : not x ≡ true → 2 ≡ refusal f mode r
-    unfolding refusal
-    refuses_exponent x-fails = simp (← p-tested, p-fits, ← x-tested, x-fails)
-
-    module _ (x-fits : not x ≡ false) where
-      pub refuses_mode : 8 < mode → 3 ≡ refusal f mode r
-      unfolding refusal
-      refuses_mode past = simp (← p-tested, p-fits, ← x-tested, x-fits, lt-ltb 8 mode past)
-
-      module _ (known : mode ≤ 8) where
-        -- a mode other than 7 has no r to look at
-        pub accepts_mode : (mode ≡ 7 → ⊥) → 0 ≡ refusal f mode r
-        unfolding refusal
-        accepts_mode other = simp (← p-tested, p-fits, ← x-tested, x-fits, le-ltb 8 mode known, ne_eqb mode 7 other)
-
-        module _ (seven : mode ≡ 7) (b : Bool) (b-tested : b ≡ bits_fit r) where
-          pub accepts_bits : b ≡ true → 0 ≡ refusal f mode r
-          unfolding refusal
-          accepts_bits fits = simp (← p-tested, p-fits, ← x-tested, x-fits, le-ltb 8 mode known, eq-eqb mode 7 seven, ← b-tested, fits)
-
-          pub refuses_bits : b ≡ false → 4 ≡ refusal f mode r
-          unfolding refusal
-          refuses_bits fails = simp (← p-tested, p-fits, ← x-tested, x-fits, le-ltb 8 mode known, eq-eqb mode 7 seven, ← b-tested, fails)
+  pub by_mode : 0 ≡ range_refusal f → (n : ℕ) → n ≡ mode_refusal mode r → n ≡ refusal f mode r
+  unfolding refusal
+  by_mode none n is = in_order-none (not (precision_fits f.p)) (not (exponent_fits f.emax)) n (mode_refusal mode r) none is
 
 -- ---- a call that is not refused
 
--- has a format in range
-pub accepted-in_range : (f : Format) (mode r n : ℕ) → n ≡ refusal f mode r → n ≡ 0 → in_range f ≡ true
-unfolding refusal in_range
-accepted-in_range f mode r n e none = go (precision_fits f.p) (exponent_fits f.emax) (sym e ∙ none)
+-- a format whose range is not refused is in range
+pub range_accepted : (f : Format) → 0 ≡ range_refusal f → in_range f ≡ true
+unfolding in_range
+range_accepted f none = go (precision_fits f.p) (exponent_fits f.emax) none
   where
-    rest : ℕ
-    rest = cond (ltb 8 mode) 3 (cond (eqb mode 7 && not (bits_fit r)) 4 0)
-
-    go : (p x : Bool) → cond (not p) 1 (cond (not x) 2 rest) ≡ 0 → (p && x) ≡ true
+    go : (p x : Bool) → ◌≡◌ {A = ℕ} 0 (cond (not p) 1 (cond (not x) 2 0)) → (p && x) ≡ true
     go true true h = refl
-    go true false h = absurd (omega arith)
-    go false x h = absurd (omega arith)
+    go true false h = absurd (omega (arith, h))
+    go false x h = absurd (omega (arith, h))
+
+-- and so is that of a call that is not refused
+pub accepted-in_range : (f : Format) (mode r n : ℕ) → n ≡ refusal f mode r → n ≡ 0 → in_range f ≡ true
+unfolding refusal
+accepted-in_range f mode r n e none =
+    range_accepted f (go (not (precision_fits f.p)) (not (exponent_fits f.emax)) (mode_refusal mode r) (sym e ∙ none))
+  where
+    go : (p x : Bool) (rest : ℕ) → ◌≡◌ {A = ℕ} (cond p 1 (cond x 2 rest)) 0 → ◌≡◌ {A = ℕ} 0 (cond p 1 (cond x 2 0))
+    go true x rest h = absurd (omega (arith, h))
+    go false true rest h = absurd (omega (arith, h))
+    go false false rest h = refl
 
 pub accepted_inside : (f : Format) (mode r : ℕ) → refusal f mode r ≡ 0 → InRange f
 accepted_inside f mode r none = in_range_bounds f (accepted-in_range f mode r 0 (sym none) refl)

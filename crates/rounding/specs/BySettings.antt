@@ -8,14 +8,17 @@ use Rattle.grid.specs.declared.Format.{Format}
 use Rattle.magnitudes.specs.declared.Settings.{Settings}
 use Rattle.magnitudes.specs.Modes.{mode_of}
 use Rattle.magnitudes.specs.BySettings.{settings, goes_to_by}
-use Rattle.rounding.specs.declared.Prepared.{Prepared}
-use Rattle.rounding.specs.declared.Prepared.TheVariants.{Ready, Refused}
 use Rattle.rounding.specs.Rounded.{answer_to}
 use Rattle.rounding.specs.Calls.{refusal}
 
 -- the answer's pattern, for every 64-bit input
 unfoldable pub rounded_by : Settings → ℕ → ℕ → ℕ
 rounded_by s word x = answer_to (kind_of x) x (goes_to_by s (sign x) word (mag x))
+
+-- what a format, a mode's number and r come to: settings to round by, or the number of the refusal
+pub data Prepared : Type 0 where
+  Ready : (s : Settings) → Prepared
+  Refused : (number : ℕ) → Prepared
 
 -- the settings to round by, unless the number is a refusal's
 unfoldable pub unless_refused : ℕ → Settings → Prepared

@@ -3,7 +3,6 @@ use Rattle.std.specs.Prelude.{Bool, cond, not, ◌&&◌, ℕ, ltb, eqb}
 use Rattle.grid.specs.declared.Format.{Format}
 use Rattle.grid.specs.Formats.{between, precision_fits, exponent_fits}
 use Rattle.magnitudes.specs.Modes.{mode_of}
-use Rattle.rounding.specs.declared.Answer.{Answer}
 use Rattle.rounding.specs.Rounded.{rounded}
 
 -- r runs from 1 to 53
@@ -17,6 +16,15 @@ refusal f mode r =
     (cond (not (exponent_fits f.emax)) 2
     (cond (ltb 8 mode) 3
     (cond (eqb mode 7 && not (bits_fit r)) 4 0)))
+
+-- what of that the mode and r refuse
+abbrev pub mode_refusal : ℕ → ℕ → ℕ
+mode_refusal mode r = cond (ltb 8 mode) 3 (cond (eqb mode 7 && not (bits_fit r)) 4 0)
+
+-- a number and a pattern, which are what a single call answers
+pub record Answer : Type 0 where
+  pub number : ℕ
+  pub pattern : ℕ
 
 -- the answer of a single call: number 0 and a pattern, or the refusal's number and pattern 0
 abbrev pub answered : ℕ → Answer

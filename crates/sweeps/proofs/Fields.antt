@@ -1,6 +1,6 @@
 -- The fields of the first table: which one a pattern is looked up by, what the rule says of one, and what a place in the table
 -- says of its field. Assumes nothing.
-use Rattle.std.proofs.Common.{◌≡◌, ℕ, ◌+◌, ◌-◌, ◌*◌, ◌/◌, ◌%◌, ◌^◌, ◌<◌, ◌≤◌, max, Bool, true, false, cond, ltb, ◌⊎◌, List, get_or, refl, ap, ◌∙◌, subst, inl, inr, lt_irrefl, eq-zero-or-pos, arith, le-ltb, lt-ltb}
+use Rattle.std.proofs.Common.{◌≡◌, ℕ, ◌+◌, ◌-◌, ◌*◌, ◌/◌, ◌%◌, ◌^◌, ◌<◌, ◌≤◌, max, Bool, true, false, cond, ltb, ◌⊎◌, refl, ap, ◌∙◌, subst, inl, inr, lt_irrefl, arith, le-ltb, lt-ltb}
 use Rattle.laws.proofs.Orders.{below_or_not}
 use Rattle.patterns.specs.Patterns.{mag}
 use Rattle.patterns.proofs.Values.{digits_normal}
@@ -12,19 +12,6 @@ use Rattle.sweeps.specs.Rules.{field_of, place_rule}
 use Rattle.sweeps.proofs.Soundness.{sound_facts}
 
 -- ---- the field of a pattern
-
--- the code takes one from the pattern without its sign
-pub looked_up : (places : List ℕ) (x r y : ℕ) → x < 2 ^ 64 → r < 2 ^ 64 → (r + 1) % 2 ^ 64 ≡ x * 2 ^ 1 % 2 ^ 64 → y ≡ get_or places (r / 2 ^ 53) 0
-    → y ≡ get_or places (field_of x) 0
-unfolding field_of
-looked_up places x r y fits word less is =
-    is ∙ ap (λ (n : ℕ). get_or places (n / 2 ^ 53) 0) (go (below_or_not x (2 ^ 63)) (eq-zero-or-pos (x % 2 ^ 63)))
-  where
-    go : (x < 2 ^ 63) ⊎ (2 ^ 63 ≤ x) → (x % 2 ^ 63 ≡ 0) ⊎ (0 < x % 2 ^ 63) → r ≡ (2 * x + (2 ^ 64 - 1)) % 2 ^ 64
-    go (inl below) (inl none) = omega arith
-    go (inl below) (inr some) = omega arith
-    go (inr past) (inl none) = omega arith
-    go (inr past) (inr some) = omega arith
 
 module _ (x : ℕ) where
   -- it is one of the table's

@@ -1,6 +1,6 @@
 -- Painting a table from one place up to another: the start, a turn, and the end; and the first table, whose rule is painted so,
 -- one stretch of fields after the other. Assumes nothing.
-use Rattle.std.proofs.Common.{◌≡◌, ℕ, ◌+◌, ◌-◌, ◌/◌, ◌^◌, ◌<◌, ◌≤◌, max, Bool, true, false, List, length, set, sym, ◌∙◌, subst, arith, w8, w64, Fits}
+use Rattle.std.proofs.Common.{◌≡◌, ℕ, ◌+◌, ◌-◌, ◌/◌, ◌^◌, ◌<◌, ◌≤◌, max, true, false, List, length, set, sym, ◌∙◌, subst, arith, w8, w64, Fits}
 use Rattle.laws.specs.Fills.{FilledTo}
 use Rattle.laws.proofs.Fills.{filled_none, filled_more, filled_all}
 use Rattle.magnitudes.specs.declared.Settings.{Settings}
@@ -17,7 +17,7 @@ module _ (place : ℕ → ℕ) (from : ℕ) (l : List ℕ) where
   painted_none = record { on = λ g says filled. subst (λ (n : ℕ). FilledTo g n l) (omega arith) filled }
 
   module _ (l' : List ℕ) (i : ℕ) (reached : from ≤ i) (painted : Painted place from i l l') where
-    -- then those before i are, and so is the next,
+    -- then those before i are, and so is the next
     pub painted_more : (n to : ℕ) → length l' ≡ n → to ≤ n → i < to → (y : ℕ) → y ≡ place i → Painted place from (i + 1) l (set l' i y)
     painted_more n to long ends before y is = record { on = more }
       where
@@ -26,11 +26,6 @@ module _ (place : ℕ → ℕ) (from : ℕ) (l : List ℕ) where
             let sooner : FilledTo g (max from i) l' = painted.on g (λ k least below. says k least (omega arith)) filled in
             subst (λ (m : ℕ). FilledTo g m (set l' i y)) (omega arith)
             (filled_more g i l' y (is ∙ sym (says i reached (omega arith))) (omega arith) (subst (λ (m : ℕ). FilledTo g m l') (omega arith) sooner))
-
-    -- or all are
-    pub painted_all : (to : ℕ) → to ≤ i → i ≤ max from to → Painted place from to l l'
-    painted_all to past within =
-        record { on = λ g says filled. subst (λ (n : ℕ). FilledTo g n l') (omega arith) (painted.on g (λ k least below. says k least (omega arith)) filled) }
 
 -- ---- the stretches of the rule
 
@@ -103,9 +98,8 @@ module _ (s : Settings) (ok : sound s ≡ true) where
       (all.on (place_rule s) (λ k least below. rule_past_top s ok k least below) filled))))))
 
 -- all fields are left out where no format has such settings
-pub none_painted : (s : Settings) (b : Bool) → b ≡ sound s → b ≡ false → (l l' : List ℕ) → Painted (λ k. 64) 0 2048 l l' → length l' ≡ 2048
-    → l' ≡ place_table s
+pub none_painted : (s : Settings) → sound s ≡ false → (l l' : List ℕ) → Painted (λ k. 64) 0 2048 l l' → length l' ≡ 2048 → l' ≡ place_table s
 unfolding place_table
-none_painted s b tested failed l l' none long =
+none_painted s failed l l' none long =
     filled_all (place_rule s) 2048 l' long
-    (none.on (place_rule s) (λ k least below. rule_unsound s k (sym tested ∙ failed)) (filled_none (place_rule s) l))
+    (none.on (place_rule s) (λ k least below. rule_unsound s k failed) (filled_none (place_rule s) l))

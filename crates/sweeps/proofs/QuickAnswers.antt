@@ -177,7 +177,7 @@ module _ (s : Settings) (word x : ℕ) (fits : x < 2 ^ 64) where
         go : (b : Bool) → sound s ≡ b → y.answer ≡ rounded_by s word x
         go true passed =
             let f : Sound s = sound_facts s passed in
-            let is = swept_by way swept _ (limits_passed s true (sym passed) refl) in
+            let is = swept_by way swept _ (limits_passed s passed) in
             let low = less (mag x) ((s.emin - 51) * 2 ^ 52) in
             let high = less (most s) (mag x) in
             let unfit : bit_or low high < 2 ^ 63 = subst (λ (z : Swept). z.unfit < 2 ^ 63) is fit in
@@ -186,7 +186,7 @@ module _ (s : Settings) (word x : ℕ) (fits : x < 2 ^ 64) where
             ap (λ (z : Swept). z.answer) is
             ∙ ap (cleared s.mode word x) (mod-eq_of_lt (omega (arith, f.cut_most)))
             ∙ plain_sum s f word x fits (fits_least f high unfit) within
-        go false failed = absurd (none-fits (less 0 (mag x)) (subst (λ (z : Swept). z.unfit < 2 ^ 63) (swept_by way swept _ (sym (limits_else s false (sym failed) refl))) fit))
+        go false failed = absurd (none-fits (less 0 (mag x)) (subst (λ (z : Swept). z.unfit < 2 ^ 63) (swept_by way swept _ (sym (limits_else s failed))) fit))
 
     -- and where what comes out as T is moved on to infinity
     pub capped_is_rounded : y ≡ cappedly l mode word x → y.unfit < 2 ^ 63 → y.answer ≡ rounded_by s word x
@@ -199,7 +199,7 @@ module _ (s : Settings) (word x : ℕ) (fits : x < 2 ^ 64) where
         go : (b : Bool) → sound s ≡ b → y.answer ≡ rounded_by s word x
         go true passed =
             let f : Sound s = sound_facts s passed in
-            let is = swept_by way swept _ (limits_passed s true (sym passed) refl) in
+            let is = swept_by way swept _ (limits_passed s passed) in
             let low = less (mag x) ((s.emin - 51) * 2 ^ 52) in
             let high = (mag x + (2 ^ 63 - s.top)) % 2 ^ 64 in
             let unfit : bit_or low high < 2 ^ 63 = subst (λ (z : Swept). z.unfit < 2 ^ 63) is fit in
@@ -209,4 +209,4 @@ module _ (s : Settings) (word x : ℕ) (fits : x < 2 ^ 64) where
             ap (λ (z : Swept). z.answer) is
             ∙ ap (λ (d : ℕ). (cleared s.mode word x d + cond (leb (2 ^ 63) ((high + added s.mode word x d) % 2 ^ 64)) (infinity - s.top) 0) % 2 ^ 64) same
             ∙ capped_sum s f word x fits (fits_least f high unfit) below
-        go false failed = absurd (none-fits ((mag x + 0) % 2 ^ 64) (subst (λ (z : Swept). z.unfit < 2 ^ 63) (swept_by way swept _ (sym (limits_else s false (sym failed) refl))) fit))
+        go false failed = absurd (none-fits ((mag x + 0) % 2 ^ 64) (subst (λ (z : Swept). z.unfit < 2 ^ 63) (swept_by way swept _ (sym (limits_else s failed))) fit))

@@ -1,5 +1,5 @@
 -- Writing the second table, row after row. Assumes nothing.
-use Rattle.std.proofs.Common.{◌≡◌, ℕ, ◌+◌, ◌-◌, ◌*◌, ◌/◌, ◌%◌, ◌^◌, ◌<◌, ◌≤◌, max, Bool, true, false, cond, leb, ◌⊎◌, List, length, set, refl, ap, ◌∙◌, subst, ap₂, inl, inr, eq-zero-or-pos, arith, length-set, pow_pos, w64, Fits, le-ltb, lt-ltb, le-leb}
+use Rattle.std.proofs.Common.{◌≡◌, ℕ, ◌+◌, ◌-◌, ◌*◌, ◌/◌, ◌%◌, ◌^◌, ◌<◌, ◌≤◌, Bool, true, false, cond, leb, ◌⊎◌, List, length, set, refl, ap, ◌∙◌, subst, ap₂, inl, inr, eq-zero-or-pos, arith, length-set, pow_pos, w64, Fits, le-ltb, lt-ltb, le-leb}
 use borrow.Author.Tests.{lt-leb}
 use Rattle.laws.specs.Fills.{FilledTo}
 use Rattle.laws.proofs.Fills.{filled_none, filled_all}
@@ -62,36 +62,6 @@ module _ (s : Settings) (i : ℕ) where
       first =
           painted_more (row_of s) (4 * i) l l (4 * i) (omega arith) (painted_none (row_of s) (4 * i) l) 512 512 long (omega arith) (omega arith) a
           (kept_word (i / 2) (omega arith) ∙ word_at 0 (omega arith) ∙ ap (row_of s) (omega arith))
-
--- ---- one row after the other
-
-module _ (s : Settings) (from : ℕ) (l : List ℕ) where
-  pub no_row : Painted (row_of s) (4 * from) (4 * from) l l
-  no_row = painted_none (row_of s) (4 * from) l
-
-  pub next_row : (i : ℕ) (l₁ l₂ : List ℕ) → from ≤ i → Painted (row_of s) (4 * from) (4 * i) l l₁ → Painted (row_of s) (4 * i) (4 * (i + 1)) l₁ l₂
-      → Painted (row_of s) (4 * from) (4 * (i + 1)) l l₂
-  next_row i l₁ l₂ reached sooner this = record { on = both }
-    where
-      both : (g : ℕ → ℕ) → ((k : ℕ) → 4 * from ≤ k → k < 4 * (i + 1) → g k ≡ row_of s k) → FilledTo g (4 * from) l → FilledTo g (max (4 * from) (4 * (i + 1))) l₂
-      both g says filled =
-          subst (λ (n : ℕ). FilledTo g n l₂) (omega arith)
-          (this.on g (λ k least below. says k (omega arith) below)
-          (subst (λ (n : ℕ). FilledTo g n l₁) (omega arith) (sooner.on g (λ k least below. says k least (omega arith)) filled)))
-
-  pub all_rows : (i to : ℕ) (l₁ : List ℕ) → to ≤ i → i ≤ to → Painted (row_of s) (4 * from) (4 * i) l l₁ → Painted (row_of s) (4 * from) (4 * to) l l₁
-  all_rows i to l₁ past within painted = subst (λ (n : ℕ). Painted (row_of s) (4 * from) (4 * n) l l₁) (omega arith) painted
-
--- ---- blanks
-
-module _ (from to end i : ℕ) (ends : end ≡ 4 * to) (l l₁ : List ℕ) where
-  pub next_blank : to ≤ 128 → 4 * from ≤ i → i < end → length l₁ ≡ 512 → Painted (λ k. 0) (4 * from) i l l₁
-      → Painted (λ k. 0) (4 * from) (i + 1) l (set l₁ i 0)
-  next_blank few reached before long painted =
-      painted_more (λ (k : ℕ). 0) (4 * from) l l₁ i reached painted 512 end long (omega arith) before 0 refl
-
-  pub all_blank : end ≤ i → i ≤ end → Painted (λ k. 0) (4 * from) i l l₁ → Painted (λ k. 0) (4 * from) (4 * to) l l₁
-  all_blank past within painted = subst (λ (n : ℕ). Painted (λ k. 0) (4 * from) n l l₁) (omega arith) painted
 
 -- ---- the whole table
 

@@ -14,6 +14,19 @@ use Rattle.magnitudes.proofs.Choices.{increment-below}
 use Rattle.sweeps.specs.Limits.{Sound, steady, most}
 use Rattle.sweeps.proofs.Sums.{magnitude_digit}
 
+-- every mode but toward zero and to odd is not steady
+pub not_steady : (mode : Mode) → (mode ≡ TowardZero → ⊥) → (mode ≡ ToOdd → ⊥) → false ≡ steady mode
+unfolding steady
+not_steady TiesToEven not_zero not_odd = refl
+not_steady TiesToZero not_zero not_odd = refl
+not_steady TiesAway not_zero not_odd = refl
+not_steady TowardZero not_zero not_odd = absurd (not_zero refl)
+not_steady TowardPlus not_zero not_odd = refl
+not_steady TowardMinus not_zero not_odd = refl
+not_steady ToOdd not_zero not_odd = absurd (not_odd refl)
+not_steady (Stochastic r) not_zero not_odd = refl
+not_steady EvenChance not_zero not_odd = refl
+
 -- a steady mode adds nothing where the last kept digit is odd
 steady_adds_nothing :
     (mode : Mode) → steady mode ≡ true → (negative : Bool) (n D word : ℕ) → 0 < D → n % 2 ≡ 1 → increment mode negative n D word ≡ 0

@@ -1,22 +1,16 @@
--- Sweeping a stretch of an array: the start, a turn, the end, and the same by another number of its mode. Assumes nothing.
-use Rattle.std.proofs.Common.{◌≡◌, ℕ, ◌+◌, ◌/◌, ◌^◌, ◌<◌, false, eqb, List, refl, subst, arith}
+-- Sweeping a stretch of an array: a turn, and the end. Assumes nothing.
+use Rattle.std.proofs.Common.{◌≡◌, ℕ, ◌+◌, ◌/◌, ◌^◌, ◌<◌, true, eqb, List, arith, eqb-true}
 use lib.Bits.{bit_or}
 use Rattle.laws.proofs.Words.{or_left_below, or_right_below}
 use Rattle.magnitudes.specs.declared.Mode.{Mode}
 use Rattle.magnitudes.specs.declared.Settings.{Settings}
-use Rattle.magnitudes.specs.Modes.{mode_of}
 use Rattle.sweeps.specs.declared.Limits.{Limits}
 use Rattle.sweeps.specs.declared.Swept.{Swept}
 use Rattle.sweeps.specs.Limits.{limits}
 use Rattle.sweeps.specs.Stretches.{SweptTo}
-use Rattle.sweeps.proofs.Numbers.{named_without_r, named_with_r, named_last}
 
 module _ (Done : Settings → ℕ → List ℕ → Type 0) (l : Limits) where
   module _ (mode : Mode) (from : ℕ) (before : List ℕ) where
-    -- at first nothing is swept
-    pub swept_none : SweptTo Done l mode from from (0 < 2 ^ 63) before before
-    swept_none = record { kept = λ s done. done; right = λ s by named done none. done }
-
     -- a turn stores one answer, which is right where it fits
     pub swept_more : (i unfit : ℕ) (l₁ l₂ : List ℕ) (y : Swept) → SweptTo Done l mode from i (unfit < 2 ^ 63) before l₁
         → ((s : Settings) → Done s from l₁ → Done s from l₂)
@@ -33,24 +27,6 @@ module _ (Done : Settings → ℕ → List ℕ → Type 0) (l : Limits) where
 
     -- a sweep that has come to the stretch's end has swept the stretch
     pub swept_all : (i to unfit : ℕ) (after : List ℕ) → ((s : Settings) → Done s i after → Done s to after)
-        → SweptTo Done l mode from i (unfit < 2 ^ 63) before after → SweptTo Done l mode from to (unfit / 2 ^ 63 ≡ 0) before after
+        → SweptTo Done l mode from i (unfit < 2 ^ 63) before after → SweptTo Done l mode from to (eqb (unfit / 2 ^ 63) 0 ≡ true) before after
     swept_all i to unfit after fewer swept =
-        record { kept = swept.kept; right = λ s by named done none. fewer s (swept.right s by named done (omega arith)) }
-
-  -- what is swept by the number that an arm passes on is swept in the mode
-  module _ (mode r from to : ℕ) (Fit : Type 0) (before after : List ℕ) where
-    by_number_lem : (n q : ℕ) → mode_of n q ≡ mode_of mode r → SweptTo Done l (mode_of n q) from to Fit before after
-        → SweptTo Done l (mode_of mode r) from to Fit before after
-    by_number_lem n q same swept = subst (λ (m : Mode). SweptTo Done l m from to Fit before after) same swept
-
-    module _ (k : ℕ) (is : mode ≡ k) where
-      pub swept_without_r : eqb k 7 ≡ false → SweptTo Done l (mode_of k 0) from to Fit before after
-          → SweptTo Done l (mode_of mode r) from to Fit before after
-      swept_without_r other = by_number_lem k 0 (named_without_r mode r (mode_of mode r) refl k is other)
-
-      pub swept_with_r : SweptTo Done l (mode_of k r) from to Fit before after → SweptTo Done l (mode_of mode r) from to Fit before after
-      swept_with_r = by_number_lem k r (named_with_r mode r (mode_of mode r) refl k is)
-
-    pub swept_last : (mode ≡ 0 → ⊥) → (mode ≡ 1 → ⊥) → (mode ≡ 2 → ⊥) → (mode ≡ 3 → ⊥) → (mode ≡ 4 → ⊥) → (mode ≡ 5 → ⊥) → (mode ≡ 6 → ⊥) → (mode ≡ 7 → ⊥)
-        → SweptTo Done l (mode_of 8 0) from to Fit before after → SweptTo Done l (mode_of mode r) from to Fit before after
-    swept_last a b c d e f g h = by_number_lem 8 0 (named_last mode r (mode_of mode r) refl a b c d e f g h)
+        record { kept = swept.kept; right = λ s by named done all. fewer s (swept.right s by named done (let none = eqb-true (unfit / 2 ^ 63) 0 all in omega arith)) }

@@ -1,18 +1,13 @@
 // What depends only on the settings: the limits between which numbers are rounded without a branch.
-ghost use Rattle.std.specs.Prelude.{◌≡◌, ◌≤◌, true};
+ghost use Rattle.std.specs.Prelude.{◌≡◌, ◌≤◌, true, false, MatchOption};
 ghost use Rattle.sweeps.specs.Limits.{sound_places, sound_top, sound, steady, most, limits};
 
 use super::Limits;
 use magnitudes::{Mode, Settings};
+use patterns::{INFINITY, SIGN};
 
 // The smallest normal pattern: a step of the exponent field.
 const FIELD: u64 = 0x0010_0000_0000_0000;
-
-// The magnitude pattern of infinity.
-const INFINITY: u64 = 0x7FF0_0000_0000_0000;
-
-// The sign bit.
-const SIGN: u64 = 0x8000_0000_0000_0000;
 
 // Whether digits are cut as by a format, in the normal range and below it.
 fn places_are_sound(cut: u64, emin: u64, bottom: u64) -> bool
@@ -48,54 +43,70 @@ fn top_is_sound(cut: u64, emin: u64, xmax: u64, top: u64) -> bool
     xmax == top - (1 << cut)
 }
 
-// Whether the settings are as those of a format are: what is rounded quickly by them is rounded right.
-pub(crate) fn is_sound(s: Settings) -> bool
+// Whether the mode never goes from below T to T: toward zero and to odd, since xmax is odd.
+#[tactic(auto, using(crate::proofs::Steadiness::not_steady), unfolding(crate::specs::Limits::steady))]
+fn is_steady(mode: Mode) -> bool
+    ensures { result ≡ steady mode }
+{
+    matches!(mode, Mode::TowardZero | Mode::ToOdd)
+}
+
+// Whether the settings are as those of a format are.
+fn is_sound(s: Settings) -> bool
     ensures { result ≡ sound s }
 {
     places_are_sound(s.cut, s.emin, s.bottom) && top_is_sound(s.cut, s.emin, s.xmax, s.top)
 }
 
-// Whether the mode never goes from below T to T: toward zero and to odd, since xmax is odd.
-fn is_steady(mode: Mode) -> bool
-    ensures { result ≡ steady mode }
-{
-    match mode {
-        Mode::TiesToEven => false,
-        Mode::TiesToZero => false,
-        Mode::TiesAway => false,
-        Mode::TowardZero => true,
-        Mode::TowardPlus => false,
-        Mode::TowardMinus => false,
-        Mode::ToOdd => true,
-        Mode::Stochastic(_) => false,
-        Mode::EvenChance => false,
-    }
+// Settings that are as those of a format are: what is rounded quickly by them is rounded right.
+#[derive(Clone, Copy)]
+pub(crate) struct Sound {
+    pub s: Settings,
+    ghost sound: { sound s ≡ true },
 }
 
-// The most that fits `plain`: what is above xmax may go to T, but not in a steady mode.
-fn most_of(s: Settings) -> u64
-    requires { sound s ≡ true }
-    ensures { result ≡ most s }
-{
-    let mode = s.mode;
-    if is_steady(mode) {
-        return s.top - 1;
+impl Sound {
+    // The settings, where they are sound.
+    pub(crate) fn check(s: Settings) -> Option<Sound>
+        ensures { MatchOption result (sound s ≡ false) (λ it. it.s ≡ s) }
+    {
+        if is_sound(s) {
+            return Some(Sound { s });
+        }
+        None
     }
-    s.xmax
+
+    // The most that fits `plain`: what is above xmax may go to T, but not in a steady mode.
+    fn most(self) -> u64
+        ensures { result ≡ most self.s }
+    {
+        if is_steady(self.s.mode) {
+            return self.s.top - 1;
+        }
+        self.s.xmax
+    }
+
+    // The limits of the settings.
+    fn limits(self) -> Limits
+        ensures { result ≡ limits self.s }
+    {
+        let s = self.s;
+        Limits {
+            cut: s.cut,
+            least: (s.emin - 51) << 52,
+            most: self.most(),
+            room: SIGN - s.top,
+            gap: INFINITY - s.top,
+        }
+    }
 }
 
 // The limits of the settings. Nothing fits those of settings that no format has.
 pub fn limits_of(s: Settings) -> Limits
     ensures { result ≡ limits s }
 {
-    if is_sound(s) {
-        return Limits {
-            cut: s.cut,
-            least: (s.emin - 51) << 52,
-            most: most_of(s),
-            room: SIGN - s.top,
-            gap: INFINITY - s.top,
-        };
+    if let Some(it) = Sound::check(s) {
+        return it.limits();
     }
     Limits {
         cut: 0,

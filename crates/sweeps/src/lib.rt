@@ -32,7 +32,8 @@ pub struct Limits {
     pub gap: u64,
 }
 
-// What a number is rounded to, and whether that holds: it does where the top bit of `unfit` is not set.
+// What a number is rounded to, and whether that holds: it does where the top bit of `unfit` is not set. It is no Option,
+// since a loop gathers these bits by OR, and tests them once for a whole stretch.
 #[derive(Clone, Copy)]
 pub struct Swept {
     pub answer: u64,

@@ -1,15 +1,12 @@
 // The second table: what is kept and what is added, by the place and by one bit that the mode looks at. A row
-// has four words: the digits that are kept, what is added before, what is added behind, and one that is unused.
-ghost use Rattle.std.specs.Prelude.{◌≡◌, ◌+◌, ◌*◌, ◌<◌, ◌≤◌, length};
-ghost use Rattle.magnitudes.specs.Modes.{mode_of};
+// has four words: the digits that are kept, what is added before, what is added behind, and one that is unused. A place
+// below 64 is asked for as in quick.rt.
+ghost use Rattle.std.specs.Prelude.{◌≡◌, ◌+◌, ◌*◌, ◌<◌, ◌≤◌};
 ghost use Rattle.sweeps.specs.Rules.{Painted};
 ghost use Rattle.sweeps.specs.Rows.{bit_of, last_digit, adds_share, added_before, added_behind, row_of, first_place, row_table, added_by, by_row};
 
-use magnitudes::{Mode, Settings, increment_at, mode_of, overflows_to_infinity};
-use std::num::wrapping_add_u64;
-
-// The magnitude pattern of infinity.
-const INFINITY: u64 = 0x7FF0_0000_0000_0000;
+use magnitudes::{Mode, Settings, increment_at, overflows_to_infinity};
+use patterns::INFINITY;
 
 // All bits.
 const ALL: u64 = 0xFFFF_FFFF_FFFF_FFFF;
@@ -44,20 +41,11 @@ fn last_digit(d: u64, bit: u64) -> u64
 }
 
 // Whether the mode adds a share of the place, by the word: stochastic rounding does.
+#[tactic(auto, using(crate::proofs::RowWords::no_share), unfolding(crate::specs::Rows::adds_share))]
 fn adds_share(mode: Mode) -> bool
     ensures { result ≡ adds_share mode }
 {
-    match mode {
-        Mode::TiesToEven => false,
-        Mode::TiesToZero => false,
-        Mode::TiesAway => false,
-        Mode::TowardZero => false,
-        Mode::TowardPlus => false,
-        Mode::TowardMinus => false,
-        Mode::ToOdd => false,
-        Mode::Stochastic(_) => true,
-        Mode::EvenChance => false,
-    }
+    matches!(mode, Mode::Stochastic(_))
 }
 
 // What is added before the digits below place d are cleared: the increment by the bit, or the digits that a
@@ -90,11 +78,9 @@ fn added_behind(s: Settings, d: u64, bit: u64) -> u64
 }
 
 // Row i written: the one of place i / 2 and of bit i % 2.
-fn put_row(s: Settings, rows: &mut [u64], i: usize)
-    requires row { i < 128 }
-    requires long { length rows.old ≡ 512 }
-    ensures long { length rows.new ≡ 512 }
-    ensures filled { Painted (row_of s) (4 * i) (4 * (i + 1)) rows.old rows.new }
+fn put_row(s: Settings, rows: &mut [u64; 512], i: usize)
+    requires { i < 128 }
+    ensures { Painted (row_of s) (4 * i) (4 * (i + 1)) rows.old rows.new }
 {
     let mode = s.mode;
     let at = 4 * i;
@@ -107,53 +93,36 @@ fn put_row(s: Settings, rows: &mut [u64], i: usize)
 }
 
 // The rows from `from` to below `to` written, one after the other.
-fn put_rows(s: Settings, rows: &mut [u64], from: usize, to: usize)
+fn put_rows(s: Settings, rows: &mut [u64; 512], from: usize, to: usize)
     requires starts { from ≤ to }
     requires ends { to ≤ 128 }
-    requires long { length rows.old ≡ 512 }
-    ensures long { length rows.new ≡ 512 }
-    ensures filled { Painted (row_of s) (4 * from) (4 * to) rows.old rows.new }
+    ensures { Painted (row_of s) (4 * from) (4 * to) rows.old rows.new }
 {
-    let mut i = from;
-    while i < to {
+    for i in from..to {
         put_row(s, rows, i);
-        i += 1;
     }
 }
 
 // The rows from `from` to below `to` blanked: no number has their places.
-fn blank_rows(rows: &mut [u64], from: usize, to: usize)
+fn blank_rows(rows: &mut [u64; 512], from: usize, to: usize)
     requires starts { from ≤ to }
     requires ends { to ≤ 128 }
-    requires long { length rows.old ≡ 512 }
-    ensures long { length rows.new ≡ 512 }
-    ensures filled { Painted (λ k. 0) (4 * from) (4 * to) rows.old rows.new }
+    ensures { Painted (λ k. 0) (4 * from) (4 * to) rows.old rows.new }
 {
-    let end = 4 * to;
-    let mut i = 4 * from;
-    while i < end {
-        rows[i] = 0;
-        i += 1;
-    }
+    rows[4 * from..4 * to].fill(0);
 }
 
 // The first place past 0 that a number may have: the cut, but at least 1 and at most 53.
+#[tactic(auto, unfolding(crate::specs::Rows::first_place))]
 fn first_place(cut: u64) -> usize
     ensures { result ≡ first_place cut }
 {
-    if cut == 0 {
-        return 1;
-    }
-    if 53 < cut {
-        return 53;
-    }
-    cut as usize
+    cut.clamp(1, 53) as usize
 }
 
-// The table written from the first row to the last, two rows a place: those of place 0, of the places from the cut
-// to 52, and of 63, and blank ones between.
-fn fill_by_place(s: Settings, rows: &mut [u64])
-    requires { length rows.old ≡ 512 }
+// The table for the settings, written from the first row to the last, two rows a place: those of place 0, of the
+// places from the cut to 52, and of 63, and blank ones between.
+pub fn fill_rows(s: Settings, rows: &mut [u64; 512])
     ensures { rows.new ≡ row_table s }
 {
     let first = 2 * first_place(s.cut);
@@ -162,13 +131,6 @@ fn fill_by_place(s: Settings, rows: &mut [u64])
     put_rows(s, rows, first, 106);
     blank_rows(rows, 106, 126);
     put_rows(s, rows, 126, 128);
-}
-
-// The table for the settings.
-pub fn fill_rows(s: Settings, rows: &mut [u64; 512])
-    ensures { rows.new ≡ row_table s }
-{
-    fill_by_place(s, rows);
 }
 
 // What is added of a row's word, by the random word where the mode adds a share.
@@ -183,12 +145,12 @@ fn added_by(mode: Mode, row: u64, word: u64, d: u64) -> u64
 }
 
 // The pattern x rounded by the row of the place.
-pub fn by_row(number: u64, r: u64, rows: &[u64; 512], place: u64, word: u64, x: u64) -> u64
-    ensures { result ≡ by_row (mode_of number r) rows.now place word x }
+#[tactic(auto, unfolding(crate::specs::Rows::by_row))]
+pub fn by_row(mode: Mode, rows: &[u64; 512], place: u64, word: u64, x: u64) -> u64
+    ensures { result ≡ by_row mode rows.now place word x }
 {
-    let mode = mode_of(number, r);
     let d = place % 64;
     let at = (8 * d + 4 * bit_of(mode, word, x, d)) as usize;
-    let sum = wrapping_add_u64(x, added_by(mode, rows[at + 1], word, d));
-    wrapping_add_u64(sum & rows[at], rows[at + 2])
+    let sum = x.wrapping_add(added_by(mode, rows[at + 1], word, d));
+    (sum & rows[at]).wrapping_add(rows[at + 2])
 }

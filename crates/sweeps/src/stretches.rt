@@ -19,6 +19,7 @@ fn places_from(from: usize) -> usize
 }
 
 // Where the stretch from `from` on ends, of n places.
+#[tactic(auto, unfolding(crate::specs::Stretches::stretch_end))]
 pub fn stretch_end(from: usize, n: usize) -> usize
     ensures { result ≡ stretch_end from n }
 {

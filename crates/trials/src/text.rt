@@ -1,44 +1,59 @@
-// Names, numbers and patterns on standard output. No contract can say what is written: the program's
-// whole text is compared with the stored one.
+// What is written often. No contract can say what is written: the program's whole text is compared with
+// the stored one.
 use grid::Format;
+use reports::{Refused, Report};
+use std::fmt;
 
-// Writes bytes.
-pub(crate) fn print(bytes: &[u8]) {
-    io::write_all(1, bytes);
-}
+// The settings of a format; sub is 1 for on, and 0 for off. The other program that prints them has its own (decision 35).
+#[derive(Clone, Copy)]
+pub(crate) struct Settings(pub Format);
 
-// Writes a name and a number in decimal.
-pub(crate) fn print_number(name: &[u8], n: u64) {
-    print(name);
-    io::print_decimal(1, n);
-}
-
-// Writes a name and a pattern in sixteen hexadecimal digits.
-pub(crate) fn print_pattern(name: &[u8], n: u64) {
-    print(name);
-    io::print_hex(1, n, 16);
-}
-
-// Writes patterns, a blank before each.
-fn print_each(list: &[u64]) {
-    let mut i = 0;
-    while i < list.len() {
-        print_pattern(b" ", list[i]);
-        i += 1;
+impl fmt::Display for Settings {
+    fn fmt<W: fmt::Write>(&self, f: &mut fmt::Formatter<W>) -> fmt::Result {
+        let Format { p, emax, sub } = self.0;
+        write!(f, "p={p} emax={emax} sub={}", u64::from(sub))
     }
 }
 
-// Writes a name and patterns.
-pub(crate) fn print_patterns(name: &[u8], list: &[u64]) {
-    print(name);
-    print_each(list);
+// The settings of a call that rounds.
+#[derive(Clone, Copy)]
+pub(crate) struct Rounding {
+    pub format: Format,
+    pub mode: u64,
+    pub r: u64,
 }
 
-// Writes the settings of a call; sub is 1 for on, and 0 for off.
-pub(crate) fn print_settings(format: Format, mode: u64, r: u64) {
-    print_number(b"p=", format.p);
-    print_number(b" emax=", format.emax);
-    print_number(b" sub=", format.sub as u64);
-    print_number(b" mode=", mode);
-    print_number(b" r=", r);
+impl fmt::Display for Rounding {
+    fn fmt<W: fmt::Write>(&self, f: &mut fmt::Formatter<W>) -> fmt::Result {
+        let settings = Settings(self.format);
+        write!(f, "{settings} mode={} r={}", self.mode, self.r)
+    }
+}
+
+// Patterns or codes in sixteen hexadecimal digits each, a blank before each.
+#[derive(Clone, Copy)]
+pub(crate) struct Patterns<'a>(pub &'a [u64]);
+
+impl fmt::Display for Patterns<'_> {
+    fn fmt<W: fmt::Write>(&self, f: &mut fmt::Formatter<W>) -> fmt::Result {
+        for pattern in self.0 {
+            write!(f, " {pattern:016x}")?;
+        }
+        Ok(())
+    }
+}
+
+// What came of a call, and what the output holds now.
+#[derive(Clone, Copy)]
+pub(crate) struct Outcome<'a> {
+    pub answer: Result<(), Refused>,
+    pub out: &'a [u64],
+}
+
+impl fmt::Display for Outcome<'_> {
+    fn fmt<W: fmt::Write>(&self, f: &mut fmt::Formatter<W>) -> fmt::Result {
+        let Report { number, place } = Report::from(self.answer);
+        let out = Patterns(self.out);
+        write!(f, "number={number} place={place} y={out}")
+    }
 }

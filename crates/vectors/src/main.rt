@@ -9,73 +9,43 @@
 mod rows;
 mod tallies;
 
-use rows::{Row, with_byte};
-use tallies::{Tally, counted, print_tally, with_unended};
+use std::fmt;
+use tallies::Tally;
 
-const LINE_FEED: u8 = 10;
+// How many blocks of 65,536 bytes are read at most: more than the rows fill.
+const BLOCKS: usize = 8;
 
-// How many blocks of 65,536 bytes are read: more than the rows fill, since a loop has to have an end.
-const BLOCKS: u64 = 8;
+// Standard output, by the toolchain's io: what cannot be written is passed over.
+#[derive(Drop)]
+struct Out;
 
-// What is counted so far, and the row that is being read.
-#[derive(Clone, Copy)]
-struct Reading {
-    pub tally: Tally,
-    pub row: Row,
-}
-
-// One byte further: a line feed ends a row.
-fn after_byte(reading: Reading, byte: u8) -> Reading {
-    let tally = reading.tally;
-    let row = reading.row;
-    if byte == LINE_FEED {
-        return Reading {
-            tally: counted(tally, row),
-            row: rows::empty(),
-        };
-    }
-    Reading {
-        tally,
-        row: with_byte(row, byte),
+impl fmt::Write for Out {
+    fn write_str(&mut self, s: &str) -> fmt::Result {
+        io::write_all(1, s.as_bytes());
+        Ok(())
     }
 }
 
-// All the bytes further.
-fn after_bytes(start: Reading, bytes: &[u8]) -> Reading {
-    let mut reading = start;
-    let mut i = 0;
-    while i < bytes.len() {
-        reading = after_byte(reading, bytes[i]);
-        i += 1;
+// Writes each row that does not agree, and then the counts.
+fn write_counts(out: &mut impl fmt::Write, text: &[u8]) -> fmt::Result {
+    let mut lines = text.split(|byte| *byte == b'\n');
+    let unended = lines.next_back();
+    let mut tally = Tally::default();
+    for line in lines {
+        tally.count(out, line)?;
     }
-    reading
-}
-
-// One block of standard input further.
-fn after_block(reading: Reading) -> Reading {
-    let mut buffer = io::large_buffer();
-    let got = io::read_full(0, &mut buffer);
-    after_bytes(reading, &buffer[..got])
-}
-
-// All of standard input further, as far as the blocks reach.
-fn after_input(start: Reading) -> Reading {
-    let mut reading = start;
-    let mut block = 0;
-    while block < BLOCKS {
-        reading = after_block(reading);
-        block += 1;
+    // a last row that no line feed ends, unless nothing stands in it
+    if unended.is_some_and(|line| rows::letter_place(line).is_some()) {
+        tally.count_strange();
     }
-    reading
+    writeln!(out, "{tally}")
 }
 
 fn main() {
-    let start = Reading {
-        tally: tallies::nothing(),
-        row: rows::empty(),
-    };
-    let end = after_input(start);
-    let tally = end.tally;
-    let row = end.row;
-    print_tally(with_unended(tally, row));
+    let mut blocks = [io::large_buffer(); BLOCKS];
+    let text = blocks.as_flattened_mut();
+    // A read that fails ends the text.
+    let length = io::read_full(0, text);
+    // Out takes all that is written.
+    let _ = write_counts(&mut Out, &text[..length]);
 }

@@ -1,146 +1,131 @@
-// A row, read byte after byte.
-use places::moved_up;
-use std::num::wrapping_add_u64;
+// A row, read from its line.
+ghost use Rattle.std.specs.Prelude.{◌<◌, length, IfSome};
 
-const BLANK: u8 = 32;
+use refusals::Refusal;
+use std::{fmt, iter};
 
-// What is no digit is worth more than any digit.
-const NO_DIGIT: u64 = 16;
+const BLANK: u8 = b' ';
 
-// The fields that hold no digits: the call and the arrow.
-const CALL: u64 = 0;
+const NUL: u8 = 0;
 
-const ARROW: u64 = 5;
+// What is called in a row.
+#[derive(Clone, Copy, Debug, PartialEq, Eq)]
+pub(crate) enum Call {
+    Pack,
+    Unpack,
+}
 
-// A field that no row has: from it on a row is strange, whatever follows.
-const SPOILT: u64 = 0x1_0000_0000;
+impl Call {
+    // The call whose name begins with the letter.
+    fn named(letter: u8) -> Option<Call> {
+        match letter {
+            b'p' => Some(Call::Pack),
+            b'u' => Some(Call::Unpack),
+            _ => None,
+        }
+    }
+}
 
-// The fields of a row, as far as it is read, and which of them is being read, counted from 0: the call's
-// first letter, p, emax, sub, the pattern or code that is given, the arrow, the number, the place, and
-// the code or pattern that is due.
-#[derive(Clone, Copy)]
-pub struct Row {
-    pub field: u64,
-    pub letter: u8,
+// What a call answers: a number, and a code or pattern, which is 0 for a refused call.
+#[derive(Clone, Copy, Debug, PartialEq, Eq)]
+pub(crate) struct Outcome {
+    pub number: u64,
+    pub answer: u64,
+}
+
+impl From<Result<u64, Refusal>> for Outcome {
+    fn from(answer: Result<u64, Refusal>) -> Outcome {
+        match answer {
+            Ok(answer) => Outcome { number: 0, answer },
+            Err(refusal) => Outcome {
+                number: refusal.number(),
+                answer: 0,
+            },
+        }
+    }
+}
+
+impl fmt::Display for Outcome {
+    fn fmt<W: fmt::Write>(&self, f: &mut fmt::Formatter<W>) -> fmt::Result {
+        write!(f, "number={} answer={:016x}", self.number, self.answer)
+    }
+}
+
+// What a call is given, and what it has to answer.
+#[derive(Clone, Copy, Debug, PartialEq, Eq)]
+pub(crate) struct Row {
+    pub call: Call,
     pub p: u64,
     pub emax: u64,
     pub sub: u64,
     pub given: u64,
-    pub number: u64,
     pub place: u64,
-    pub due: u64,
+    pub due: Outcome,
 }
 
-// A row of which nothing is read.
-pub(crate) fn empty() -> Row {
-    Row {
-        field: 0,
-        letter: 0,
-        p: 0,
-        emax: 0,
-        sub: 0,
-        given: 0,
-        number: 0,
-        place: 0,
-        due: 0,
+// What a digit is worth, by decimal or upper-case hexadecimal. The crate lines hands out whole lines, and no digit.
+fn worth(digit: u8) -> Option<u64> {
+    match digit {
+        b'0'..=b'9' => Some(u64::from(digit - b'0')),
+        b'A'..=b'F' => Some(u64::from(digit - b'A') + 10),
+        _ => None,
     }
 }
 
-// What a digit is worth, by decimal or upper-case hexadecimal; NO_DIGIT for any other byte.
-fn worth(byte: u8) -> u64 {
-    if byte < 48 {
-        return NO_DIGIT;
-    }
-    if byte < 58 {
-        return (byte - 48) as u64;
-    }
-    if byte < 65 {
-        return NO_DIGIT;
-    }
-    if byte < 71 {
-        return (byte - 55) as u64;
-    }
-    NO_DIGIT
+// The number with these digits in a base, modulo 2^64; none where a byte is no digit. Base 10 takes A to F
+// too, each for what it is worth.
+fn number(base: u64, digits: &[u8]) -> Option<u64> {
+    digits.iter().try_fold(0u64, |n, digit| {
+        Some(n.wrapping_mul(base).wrapping_add(worth(*digit)?))
+    })
 }
 
-// A decimal number with one more digit.
-fn decimal(n: u64, digit: u64) -> u64 {
-    wrapping_add_u64(wrapping_add_u64(moved_up(n, 3), moved_up(n, 1)), digit)
+fn decimal(digits: &[u8]) -> Option<u64> {
+    number(10, digits)
 }
 
-// A hexadecimal number with one more digit.
-fn hexadecimal(n: u64, digit: u64) -> u64 {
-    wrapping_add_u64(moved_up(n, 4), digit)
+fn hexadecimal(digits: &[u8]) -> Option<u64> {
+    number(16, digits)
 }
 
-// The row with one more digit of the field that is being read.
-fn with_digit(row: Row, digit: u64) -> Row {
-    let field = row.field;
-    match field {
-        1 => Row {
-            p: decimal(row.p, digit),
-            ..row
-        },
-        2 => Row {
-            emax: decimal(row.emax, digit),
-            ..row
-        },
-        3 => Row {
-            sub: decimal(row.sub, digit),
-            ..row
-        },
-        4 => Row {
-            given: hexadecimal(row.given, digit),
-            ..row
-        },
-        6 => Row {
-            number: decimal(row.number, digit),
-            ..row
-        },
-        7 => Row {
-            place: decimal(row.place, digit),
-            ..row
-        },
-        8 => Row {
-            due: hexadecimal(row.due, digit),
-            ..row
-        },
-        _ => row,
-    }
+// Where the call's first letter stands: nothing but blanks and NULs stands before it.
+pub(crate) fn letter_place(line: &[u8]) -> Option<usize>
+    ensures { IfSome result (λ place. place < length line.now) }
+{
+    line.iter().position(|byte| *byte != BLANK && *byte != NUL)
 }
 
-// The row with one more byte of the field that is being read, which is spoilt by what is no digit; of the
-// call and the arrow no more is looked at.
-fn with_rest(row: Row, byte: u8) -> Row {
-    if row.field == CALL {
-        return row;
+impl Row {
+    // The row on a line; none where the line has no known form. The first letter tells the call, each blank
+    // ends a field, and of the call's name and the arrow no more is looked at.
+    pub(crate) fn parse(line: &[u8]) -> Option<Row> {
+        let (before, rest) = line.split_at(letter_place(line)?);
+        let (letter, rest) = rest.split_first()?;
+        let call = Call::named(*letter)?;
+        // Blanks before the letter end empty fields.
+        let empty = before.iter().filter(|byte| **byte == BLANK).count();
+        let fields = rest.split(|byte| *byte == BLANK);
+        let mut fields = iter::repeat_n(b"".as_slice(), empty).chain(fields);
+        let _name = fields.next()?;
+        let p = decimal(fields.next()?)?;
+        let emax = decimal(fields.next()?)?;
+        let sub = decimal(fields.next()?)?;
+        let given = hexadecimal(fields.next()?)?;
+        let _arrow = fields.next()?;
+        let number = decimal(fields.next()?)?;
+        let place = decimal(fields.next()?)?;
+        let answer = hexadecimal(fields.next()?)?;
+        if fields.next().is_some() {
+            return None;
+        }
+        Some(Row {
+            call,
+            p,
+            emax,
+            sub,
+            given,
+            place,
+            due: Outcome { number, answer },
+        })
     }
-    if row.field == ARROW {
-        return row;
-    }
-    let digit = worth(byte);
-    if digit == NO_DIGIT {
-        return Row {
-            field: SPOILT,
-            ..row
-        };
-    }
-    with_digit(row, digit)
-}
-
-// The row with one more byte: a blank ends a field, and the first letter tells the call.
-pub(crate) fn with_byte(row: Row, byte: u8) -> Row {
-    if byte == BLANK {
-        return Row {
-            field: wrapping_add_u64(row.field, 1),
-            ..row
-        };
-    }
-    if row.letter == 0 {
-        return Row {
-            letter: byte,
-            ..row
-        };
-    }
-    with_rest(row, byte)
 }

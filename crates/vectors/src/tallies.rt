@@ -1,123 +1,90 @@
 // How many rows there were, and how many of them agree.
-use super::rows::Row;
+use crate::rows::{Call, Outcome, Row};
 use codes::{pack_one, unpack_one};
 use grid::Format;
-use std::num::wrapping_add_u64;
+use std::fmt;
 
-// The first letters of the two calls.
-const PACK: u8 = 112;
+// How many rows of one call there were, and how many of them agree.
+#[derive(Clone, Copy, Debug, Default)]
+struct Count {
+    rows: u64,
+    right: u64,
+}
 
-const UNPACK: u8 = 117;
+impl Count {
+    // One row more.
+    fn count(&mut self, is_right: bool) {
+        self.rows = self.rows.wrapping_add(1);
+        self.right = self.right.wrapping_add(u64::from(is_right));
+    }
+}
 
-#[derive(Clone, Copy)]
-pub struct Tally {
-    pub packed: u64,
-    pub packed_right: u64,
-    pub unpacked: u64,
-    pub unpacked_right: u64,
+impl fmt::Display for Count {
+    fn fmt<W: fmt::Write>(&self, f: &mut fmt::Formatter<W>) -> fmt::Result {
+        write!(f, "rows={} right={}", self.rows, self.right)
+    }
+}
+
+#[derive(Clone, Copy, Debug, Default)]
+pub(crate) struct Tally {
+    pack: Count,
+    unpack: Count,
     // rows of no known form
-    pub strange: u64,
+    strange: u64,
 }
 
-pub(crate) fn nothing() -> Tally {
-    Tally {
-        packed: 0,
-        packed_right: 0,
-        unpacked: 0,
-        unpacked_right: 0,
-        strange: 0,
-    }
-}
-
-// Writes a name and a number in decimal.
-fn print_number(name: &[u8], n: u64) {
-    io::write_all(1, name);
-    io::print_decimal(1, n);
-}
-
-// Writes a name and a pattern or code in sixteen hexadecimal digits.
-fn print_pattern(name: &[u8], n: u64) {
-    io::write_all(1, name);
-    io::print_hex(1, n, 16);
-}
-
-// Whether the answer is the row's: 1 for yes, and 0 for no, which is written out.
-fn judged(row: Row, number: u64, answer: u64) -> u64 {
-    let right = row.number == number && row.place == 0 && row.due == answer;
-    if right {
-        return 1;
-    }
-    print_number(b"wrong: p=", row.p);
-    print_number(b" emax=", row.emax);
-    print_number(b" sub=", row.sub);
-    print_pattern(b" given=", row.given);
-    print_number(b" number=", number);
-    print_pattern(b" answer=", answer);
-    io::write_all(1, b"\n");
-    0
-}
-
-// The format that the row names; sub is on where it is not 0.
-fn format_of(row: Row) -> Format {
-    Format {
+// What the row's call answers.
+fn outcome(row: &Row) -> Outcome {
+    let format = Format {
         p: row.p,
         emax: row.emax,
         sub: row.sub != 0,
-    }
+    };
+    Outcome::from(match row.call {
+        Call::Pack => pack_one(format, row.given),
+        Call::Unpack => unpack_one(format, row.given),
+    })
 }
 
-// The tally with one more row of no known form.
-fn with_strange(tally: Tally) -> Tally {
-    Tally {
-        strange: wrapping_add_u64(tally.strange, 1),
-        ..tally
+// Whether the call answers what the row says; if it does not, the row is written out.
+fn agrees(out: &mut impl fmt::Write, row: &Row) -> Result<bool, fmt::Error> {
+    let outcome = outcome(row);
+    if row.due == outcome && row.place == 0 {
+        return Ok(true);
     }
+    writeln!(
+        out,
+        "wrong: p={} emax={} sub={} given={:016x} {outcome}",
+        row.p, row.emax, row.sub, row.given
+    )?;
+    Ok(false)
 }
 
-// The tally with one more row.
-pub(crate) fn counted(tally: Tally, row: Row) -> Tally {
-    if row.field != 8 {
-        return with_strange(tally);
+impl Tally {
+    // One row more of no known form.
+    pub(crate) fn count_strange(&mut self) {
+        self.strange = self.strange.wrapping_add(1);
     }
-    let letter = row.letter;
-    match letter {
-        PACK => {
-            let a = pack_one(format_of(row), row.given);
-            Tally {
-                packed: wrapping_add_u64(tally.packed, 1),
-                packed_right: wrapping_add_u64(tally.packed_right, judged(row, a.number, a.code)),
-                ..tally
-            }
+
+    // One line more.
+    pub(crate) fn count(&mut self, out: &mut impl fmt::Write, line: &[u8]) -> fmt::Result {
+        let Some(row) = Row::parse(line) else {
+            self.count_strange();
+            return Ok(());
+        };
+        let is_right = agrees(out, &row)?;
+        match row.call {
+            Call::Pack => self.pack.count(is_right),
+            Call::Unpack => self.unpack.count(is_right),
         }
-        UNPACK => {
-            let a = unpack_one(format_of(row), row.given);
-            Tally {
-                unpacked: wrapping_add_u64(tally.unpacked, 1),
-                unpacked_right: wrapping_add_u64(
-                    tally.unpacked_right,
-                    judged(row, a.number, a.pattern),
-                ),
-                ..tally
-            }
-        }
-        _ => with_strange(tally),
+        Ok(())
     }
 }
 
-// The tally with a last row that no line feed ends, if there is one: it counts as strange.
-pub(crate) fn with_unended(tally: Tally, row: Row) -> Tally {
-    if row.letter == 0 {
-        return tally;
+impl fmt::Display for Tally {
+    fn fmt<W: fmt::Write>(&self, f: &mut fmt::Formatter<W>) -> fmt::Result {
+        writeln!(f, "pack {}", self.pack)?;
+        writeln!(f, "unpack {}", self.unpack)?;
+        write!(f, "strange rows={}", self.strange)
     }
-    with_strange(tally)
-}
-
-// Writes the counts.
-pub(crate) fn print_tally(tally: Tally) {
-    print_number(b"pack rows=", tally.packed);
-    print_number(b" right=", tally.packed_right);
-    print_number(b"\nunpack rows=", tally.unpacked);
-    print_number(b" right=", tally.unpacked_right);
-    print_number(b"\nstrange rows=", tally.strange);
-    io::write_all(1, b"\n");
 }

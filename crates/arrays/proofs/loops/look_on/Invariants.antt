@@ -7,7 +7,9 @@ use Rattle.arrays.specs.Loops.{rounded_by_at}
 use Rattle.arrays.proofs.loops.look_on.Given as goal
 
 abbrev pub invariant-loop-i : goal.invariant-loop-i
-invariant-loop-i l = (l.i ≤ length l.xs) × (length l.out ≡ length l.xs) × FilledTo (rounded_by_at l.s l.words l.xs) l.i l.out
+invariant-loop-i g l =
+    (l.i ≤ length (g.T.Entry.words l.inputs.xs.now)) × (length (g.T.Entry.words l.out) ≡ length (g.T.Entry.words l.inputs.xs.now))
+    × FilledTo (rounded_by_at l.t.settings (g.T.Entry.words l.inputs.words.now) (g.T.Entry.words l.inputs.xs.now)) l.i (g.T.Entry.words l.out)
 
 abbrev pub decreases-loop-i : goal.decreases-loop-i
-decreases-loop-i l = length l.xs - l.i
+decreases-loop-i g l = l.n - l.i

@@ -7,7 +7,9 @@ use Rattle.arrays.specs.Loops.{rounded_by_at}
 use Rattle.arrays.proofs.loops.sweep_on.Given as goal
 
 abbrev pub invariant-loop-from : goal.invariant-loop-from
-invariant-loop-from l = (l.from ≤ length l.xs) × (length l.out ≡ length l.xs) × FilledTo (rounded_by_at l.s l.words l.xs) l.from l.out
+invariant-loop-from g l =
+    (l.from ≤ length (g.T.Entry.words l.inputs.xs.now)) × (length (g.T.Entry.words l.out) ≡ length (g.T.Entry.words l.inputs.xs.now))
+    × FilledTo (rounded_by_at l.s (g.T.Entry.words l.inputs.words.now) (g.T.Entry.words l.inputs.xs.now)) l.from (g.T.Entry.words l.out)
 
 abbrev pub decreases-loop-from : goal.decreases-loop-from
-decreases-loop-from l = length l.xs - l.from
+decreases-loop-from g l = l.n - l.from

@@ -1,36 +1,29 @@
 -- `bytearrays::round::round_bytes` meets its contract. Assumes nothing.
-use Rattle.bytearrays.proofs.RoundCalls.{ready_mode, ready_lengths, ready_words, ready-report, ready_with_words, ready_without_words, refused-report, refused_output}
+use borrow.Author.Rules.{rules}
+use Rattle.std.proofs.lemmas.Result.{err_from_is_err_and}
+use Rattle.rounding.specs.Calls.{refusal}
+use Rattle.bytearrays.specs.Calls.{round_bytes_reported, round_bytes_afterwards}
+use Rattle.bytearrays.proofs.Calls.{ragged_report, ragged_output, whole_report, whole_output}
 use Rattle.bytearrays.proofs.round.round_bytes.Goals as goal
 
-pub round_all-requires-clause-mode : goal.round_all-requires-clause-mode
-round_all-requires-clause-mode c = search ready_mode
+pub returns-in_err-check_whole-clause-answer : goal.returns-in_err-check_whole-clause-answer
+unfolding round_bytes_reported
+returns-in_err-check_whole-clause-answer c =
+    let p = err_from_is_err_and c.from_residual.result c.from_residual.ensures.1 in
+    rw (p.1, p.2) (ragged_report _ _ _ _ _ (c.in_err-check_whole.ensures (refusal c.args.format c.args.mode c.args.r) (λ r h. search rules)))
 
-pub round_all-requires-clause-words : goal.round_all-requires-clause-words
-round_all-requires-clause-words c = search ready_words
+pub returns-in_err-check_whole-clause-written : goal.returns-in_err-check_whole-clause-written
+unfolding round_bytes_afterwards round_bytes_reported
+returns-in_err-check_whole-clause-written c =
+    ragged_output _ _ _ _ _ (c.in_err-check_whole.ensures (refusal c.args.format c.args.mode c.args.r) (λ r h. search rules)) _
 
-pub round_all-requires-clause-outputs : goal.round_all-requires-clause-outputs
-round_all-requires-clause-outputs c = search ready_lengths
+pub returns-clause-answer : goal.returns-clause-answer
+unfolding round_bytes_reported
+returns-clause-answer c =
+    whole_report _ _ _ _ (c.in_ok-check_whole.ensures (refusal c.args.format c.args.mode c.args.r) (λ r h. search rules)) _ c.round_array.ensures.answer
 
-pub returns-then-uses_word-clause-answer : goal.returns-then-uses_word-clause-answer
-returns-then-uses_word-clause-answer c = search ready-report
-
-pub returns-then-uses_word-clause-written : goal.returns-then-uses_word-clause-written
-returns-then-uses_word-clause-written c = search ready_with_words
-
-pub round_all-requires-in-Ready-clause-mode : goal.round_all-requires-in-Ready-clause-mode
-round_all-requires-in-Ready-clause-mode c = search ready_mode
-
-pub round_all-requires-in-Ready-clause-outputs : goal.round_all-requires-in-Ready-clause-outputs
-round_all-requires-in-Ready-clause-outputs c = search ready_lengths
-
-pub returns-else-uses_word-clause-answer : goal.returns-else-uses_word-clause-answer
-returns-else-uses_word-clause-answer c = search ready-report
-
-pub returns-else-uses_word-clause-written : goal.returns-else-uses_word-clause-written
-returns-else-uses_word-clause-written c = search ready_without_words
-
-pub returns-in-Refused-clause-answer : goal.returns-in-Refused-clause-answer
-returns-in-Refused-clause-answer c = search refused-report
-
-pub returns-in-Refused-clause-written : goal.returns-in-Refused-clause-written
-returns-in-Refused-clause-written c = search refused_output
+pub returns-clause-written : goal.returns-clause-written
+unfolding round_bytes_afterwards round_bytes_reported
+returns-clause-written c =
+    whole_output _ _ _ _ (c.in_ok-check_whole.ensures (refusal c.args.format c.args.mode c.args.r) (λ r h. search rules)) _ c.round_array.ensures.answer _ _ c.round_array.ensures.kept
+    (search rules) (search rules) c.round_array.ensures.written

@@ -1,29 +1,31 @@
 -- `jobs::texts::read_lines` meets its contract. Assumes nothing.
-use lib.ListN.{length-set}
-use borrow.Author.Rules.{rules}
-use Rattle.jobs.proofs.Scans.{found_within, found-fits, lines_turn, bytes_turn, values_turn, ahead_none, ahead_stopped, lines_end, bytes_end, values_end}
+use native.Mathlib.Omega.{arith}
+use Rattle.jobs.proofs.Scans.{found_within, lines_turn, rest_turn, values_turn, ahead_none, ahead_stopped, lines_end, rest_end, values_end}
 use Rattle.jobs.proofs.texts.read_lines.Goals as goal
 
-pub overflow_add-at : goal.overflow_add-at
-overflow_add-at c = search found-fits
+pub slice_bounds-rest-count : goal.slice_bounds-rest-count
+slice_bounds-rest-count c = search found_within
 
-pub loop-line-preserved : goal.loop-line-preserved
-loop-line-preserved c = (search rules, search found_within, simp length-set (search rules), search lines_turn, search bytes_turn, search values_turn)
+pub slice_bounds-rest-start : goal.slice_bounds-rest-start
+slice_bounds-rest-start c = search found_within
 
-pub returns-in-Nothing-clause-lines : goal.returns-in-Nothing-clause-lines
-returns-in-Nothing-clause-lines c = search (lines_end, ahead_stopped)
+pub loop-i-preserved : goal.loop-i-preserved
+loop-i-preserved c = record { lines = search lines_turn; left = search rest_turn; stored = search values_turn }
 
-pub returns-in-Nothing-clause-bytes : goal.returns-in-Nothing-clause-bytes
-returns-in-Nothing-clause-bytes c = search (bytes_end, ahead_stopped)
+pub returns-in_default-clause-bad : goal.returns-in_default-clause-bad
+returns-in_default-clause-bad c =
+    let none = ahead_stopped c.args.words c.args.last c.loop-i.i c.loop-i.rest.now c.read_at.result c.read_at.ensures c.loop-i-test.true c.in_default.is in
+    let end = lines_end c.args.words c.args.last c.loop-i.i c.loop-i.rest.now none _ c.loop-i.invariant.lines in
+    (omega arith, omega arith)
 
-pub returns-in-Nothing-clause-written : goal.returns-in-Nothing-clause-written
-returns-in-Nothing-clause-written c = search (values_end, ahead_stopped)
+pub returns-in_default-clause-written : goal.returns-in_default-clause-written
+returns-in_default-clause-written c = search (values_end, ahead_stopped)
 
-pub returns-clause-lines : goal.returns-clause-lines
-returns-clause-lines c = search (lines_end, ahead_none)
-
-pub returns-clause-bytes : goal.returns-clause-bytes
-returns-clause-bytes c = search (bytes_end, ahead_none)
+pub returns-clause-good : goal.returns-clause-good
+returns-clause-good c =
+    let none = ahead_none c.args.words c.args.last c.loop-i.i c.loop-i.rest.now c.loop-i-test.false in
+    let end = lines_end c.args.words c.args.last c.loop-i.i c.loop-i.rest.now none _ c.loop-i.invariant.lines in
+    (omega arith, search rest_end)
 
 pub returns-clause-written : goal.returns-clause-written
 returns-clause-written c = search (values_end, ahead_none)

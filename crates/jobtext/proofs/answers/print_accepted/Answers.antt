@@ -1,21 +1,21 @@
 -- `jobtext::answers::print_accepted` meets its contract. Assumes nothing.
-use Rattle.jobtext.proofs.WholeAnswers.{status_within, heads_small, patterns_fit, accepted_within, accepted-written}
+use Rattle.jobtext.proofs.WholeAnswers.{first_fits, count_fits, heads_printed, pattern_fits, pattern_printed, accepted_printed}
 use Rattle.jobtext.proofs.answers.print_accepted.Goals as goal
 
-pub slice_bounds-write_line-count : goal.slice_bounds-write_line-count
-slice_bounds-write_line-count c = search status_within
+pub add-requires : goal.add-requires
+add-requires c = search first_fits
 
-pub slice_bounds-write_line-start : goal.slice_bounds-write_line-start
-slice_bounds-write_line-start c = search status_within
+pub add-requires-2 : goal.add-requires-2
+add-requires-2 c = search count_fits
 
-pub overflow_add-from : goal.overflow_add-from
-overflow_add-from c = heads_small _ _ _ _ _ c.write_line-status.ensures.answer c.write_line.ensures.answer
+pub loop-y-init : goal.loop-y-init
+loop-y-init c = search heads_printed
 
-pub print_patterns-requires : goal.print_patterns-requires
-print_patterns-requires c = search patterns_fit
+pub add-requires-in-loop-y : goal.add-requires-in-loop-y
+add-requires-in-loop-y c = search pattern_fits
 
-pub returns-clause-within : goal.returns-clause-within
-returns-clause-within c = search accepted_within
+pub loop-y-preserved : goal.loop-y-preserved
+loop-y-preserved c = search pattern_printed
 
-pub returns-clause-written : goal.returns-clause-written
-returns-clause-written c = search accepted-written
+pub returns : goal.returns
+returns c = search accepted_printed

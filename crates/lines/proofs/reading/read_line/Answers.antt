@@ -1,21 +1,26 @@
 -- `lines::reading::read_line` meets its contract. Assumes nothing.
-use Rattle.lines.proofs.Values.{no_key, key_within, no_value, line-found, line-fits}
+use mathlib.Core.Path.{◌∙◌}
+use borrow.Author.Rules.{rules}
+use Rattle.lines.proofs.Values.{no_key, no_value, line-found, line-fits}
 use Rattle.lines.proofs.reading.read_line.Goals as goal
 
-pub returns-then-not-begins : goal.returns-then-not-begins
-returns-then-not-begins c = search no_key
+pub returns-in_err-rest : goal.returns-in_err-rest
+returns-in_err-rest c =
+    c.from_residual.ensures
+    ∙ no_key c.args.key.now c.args.form c.args.s.now c.strip_prefix.result c.strip_prefix.ensures.cases c.in_err-rest.was
 
-pub slice_bounds-read_value-count : goal.slice_bounds-read_value-count
-slice_bounds-read_value-count c = search key_within
-
-pub slice_bounds-read_value-start : goal.slice_bounds-read_value-start
-slice_bounds-read_value-start c = search key_within
+pub returns-in_err-found : goal.returns-in_err-found
+returns-in_err-found c =
+    c.from_residual-in_err-found.ensures
+    ∙ no_value c.args.key.now c.args.form c.args.s.now c.strip_prefix.result c.strip_prefix.ensures.cases c.in_ok-rest.rest c.in_ok-rest.was
+    c.read_value.result c.read_value.ensures c.in_err-found.was
 
 pub overflow_add-result : goal.overflow_add-result
-overflow_add-result c = search line-fits
+overflow_add-result c =
+    line-fits c.args.key.now c.args.form c.args.s.now c.strip_prefix.result c.strip_prefix.ensures.cases c.in_ok-rest.rest c.in_ok-rest.was
+    c.read_value.result c.read_value.ensures c.in_ok-found.found c.in_ok-found.was (search rules)
 
-pub returns-in-Value : goal.returns-in-Value
-returns-in-Value c = search line-found
-
-pub returns-in-Nothing : goal.returns-in-Nothing
-returns-in-Nothing c = search no_value
+pub returns : goal.returns
+returns c =
+    line-found c.args.key.now c.args.form c.args.s.now c.strip_prefix.result c.strip_prefix.ensures.cases c.in_ok-rest.rest c.in_ok-rest.was
+    c.read_value.result c.read_value.ensures c.in_ok-found.found c.in_ok-found.was

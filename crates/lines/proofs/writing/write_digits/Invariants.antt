@@ -13,6 +13,3 @@ invariant-loop-i l =
     × (length l.out ≡ length l.initial.out)
     × (digits l.base l.i l.rest ≡ take l.i (digits l.base l.k l.n))
     × (l.out ≡ take l.i l.initial.out ++ drop l.i (over (digits l.base l.k l.n) l.initial.out))
-
-abbrev pub decreases-loop-i : goal.decreases-loop-i
-decreases-loop-i l = l.i

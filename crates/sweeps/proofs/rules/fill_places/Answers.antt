@@ -1,10 +1,8 @@
 -- `sweeps::rules::fill_places` meets its contract. Assumes nothing.
-use Rattle.sweeps.proofs.Fitting.{is_sound}
+use Rattle.std.proofs.lemmas.Option.{MatchOption-at_none}
+use Rattle.std.proofs.Common.{rules}
 use Rattle.sweeps.proofs.Painting.{none_painted}
 use Rattle.sweeps.proofs.rules.fill_places.Goals as goal
 
-pub fill_by_settings-requires-clause-sound : goal.fill_by_settings-requires-clause-sound
-fill_by_settings-requires-clause-sound c = search is_sound
-
-pub returns : goal.returns
-returns c = search none_painted
+pub returns-in-None : goal.returns-in-None
+returns-in-None c = none_painted c.args.s (MatchOption-at_none _ _ c.in-None.is c.check.ensures) _ _ c.paint.ensures.filled (search rules)

@@ -1,0 +1,11 @@
+-- `arrays::sweeping::sweep_by` meets its contract. Assumes nothing.
+use borrow.Author.Rules.{rules}
+use Rattle.arrays.proofs.Turns.{stored_long}
+use Rattle.arrays.proofs.Sweeps.{quick_turn, sweep_ends}
+use Rattle.arrays.proofs.sweeping.sweep_by.Goals as goal
+
+pub loop-i-preserved : goal.loop-i-preserved
+loop-i-preserved g c = (search rules, search stored_long, search (quick_turn g.Q.Quick.rule g.met.Q.Quick.rounds))
+
+pub returns-clause-swept : goal.returns-clause-swept
+returns-clause-swept g c = search sweep_ends

@@ -1,0 +1,3 @@
+-- The laws on refusals.
+pub mod Apart
+pub mod Unique

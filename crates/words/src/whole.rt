@@ -1,0 +1,21 @@
+// Words that are entries of their own.
+use super::Entry;
+
+impl Entry for u64 {
+    ghost words = { λ entries. entries };
+
+    #[inline(always)]
+    fn count(entries: &[u64]) -> usize {
+        entries.len()
+    }
+
+    #[inline(always)]
+    fn word_at(entries: &[u64], i: usize) -> u64 {
+        entries[i]
+    }
+
+    #[inline(always)]
+    fn put(entries: &mut [u64], i: usize, word: u64) {
+        entries[i] = word;
+    }
+}
