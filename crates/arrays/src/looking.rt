@@ -61,7 +61,8 @@ fn look_up_by<T: Entry>(
         words: inputs.words,
         xs: inputs.xs,
     };
-    for i in stretch.start..stretch.end {
+    let end = lent.place_within(out, stretch.end);
+    for i in stretch.start..end {
         T::put(out, i, tables.round_at(mode, &lent, i));
     }
 }

@@ -80,8 +80,9 @@ fn sweep_by<T: Entry, Q: Quick>(
     // copies, which the compiler need not read again behind each store
     let words = inputs.words;
     let xs = inputs.xs;
+    let end = inputs.place_within(out, stretch.end);
     let mut unfit = 0;
-    for i in stretch.start..stretch.end {
+    for i in stretch.start..end {
         let swept = Q::swept(l, mode, T::word_at(words, i), T::word_at(xs, i));
         T::put(out, i, swept.answer);
         unfit |= swept.unfit;

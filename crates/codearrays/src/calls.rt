@@ -4,9 +4,9 @@ ghost use Rattle.reports.specs.Reports.{reported_by};
 ghost use Rattle.codearrays.specs.Codes.{pack_reported, pack_afterwards, unpack_reported, unpack_afterwards};
 
 use super::converting::convert_all;
+use super::decisions::decide;
 use bylayout::{pack_by, unpack_by};
 use grid::Format;
-use layouts::lay_out;
 use reports::Refused;
 use words::Entry;
 
@@ -16,7 +16,7 @@ pub fn pack_array<T: Entry>(format: Format, xs: &[T], out: &mut [T]) -> Result<(
     ensures written { T.words out.new ≡ pack_afterwards format (T.words xs.now) (T.words out.old) }
     ensures kept { OnErr result (out.new ≡ out.old) }
 {
-    let layout = lay_out(format)?;
+    let layout = decide(format, T::count(xs), T::count(out))?;
     convert_all(xs, out, |x| pack_by(layout, x))
 }
 
@@ -26,6 +26,6 @@ pub fn unpack_array<T: Entry>(format: Format, codes: &[T], out: &mut [T]) -> Res
     ensures written { T.words out.new ≡ unpack_afterwards format (T.words codes.now) (T.words out.old) }
     ensures kept { OnErr result (out.new ≡ out.old) }
 {
-    let layout = lay_out(format)?;
+    let layout = decide(format, T::count(codes), T::count(out))?;
     convert_all(codes, out, |code| unpack_by(layout, code))
 }

@@ -28,12 +28,18 @@ impl Entry for u8 {
     #[inline(always)]
     fn word_at(bytes: &[u8], i: usize) -> u64 {
         let (words, _) = bytes.as_chunks::<8>();
-        u64::from_le_bytes(words[i])
+        if i < Self::count(bytes) {
+            u64::from_le_bytes(words[i])
+        } else {
+            0
+        }
     }
 
     #[inline(always)]
     fn put(bytes: &mut [u8], i: usize, word: u64) {
-        let at = 8 * i;
-        put_bytes(&mut bytes[at..at + 8], word);
+        if i < Self::count(bytes) {
+            let at = 8 * i;
+            put_bytes(&mut bytes[at..at + 8], word);
+        }
     }
 }

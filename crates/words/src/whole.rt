@@ -11,11 +11,17 @@ impl Entry for u64 {
 
     #[inline(always)]
     fn word_at(entries: &[u64], i: usize) -> u64 {
-        entries[i]
+        if i < Self::count(entries) {
+            entries[i]
+        } else {
+            0
+        }
     }
 
     #[inline(always)]
     fn put(entries: &mut [u64], i: usize, word: u64) {
-        entries[i] = word;
+        if i < Self::count(entries) {
+            entries[i] = word;
+        }
     }
 }

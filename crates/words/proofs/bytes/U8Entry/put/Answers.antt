@@ -16,5 +16,5 @@ overflow_add-at c = let many = length-words_of c.args.bytes.now in search rules
 pub slice_bounds-put_bytes-end : goal.slice_bounds-put_bytes-end
 slice_bounds-put_bytes-end c = let many = length-words_of c.args.bytes.now in search rules
 
-pub returns : goal.returns
-returns c = let eight : 8 * c.args.i + 8 - 8 * c.args.i ≡ 8 = omega arith in search (word_written, rules)
+pub returns-then-i-count : goal.returns-then-i-count
+returns-then-i-count c = let eight : 8 * c.args.i + 8 - 8 * c.args.i ≡ 8 = omega arith in search (word_written, rules)
