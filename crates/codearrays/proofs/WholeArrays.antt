@@ -13,7 +13,8 @@ use Rattle.refusals.proofs.Apart.{number_some}
 use Rattle.grid.specs.declared.Format.{Format}
 use Rattle.layouts.specs.declared.Layout.{Layout}
 use Rattle.layouts.specs.Calls.{format_refusal}
-use Rattle.layouts.specs.Layouts.{ready, refused, laid}
+use Rattle.layouts.specs.Fields.{HasCode}
+use Rattle.layouts.specs.Layouts.{Laid, ready, refused, laid}
 use Rattle.layouts.proofs.Layouts.{laid_number, laid_layout}
 use Rattle.layouts.proofs.Refusals.{accepted-has_code}
 use Rattle.bylayout.specs.Answers.{Packed, Unpacked}
@@ -27,7 +28,7 @@ use Rattle.codearrays.specs.Codes.{then_lengths, codes_refusal, codes_reported, 
 use Rattle.codearrays.specs.Loops.{decided, pack_number_by, pack_code_by, unpack_number_by, unpack_pattern_by, words_reported, words_afterwards}
 use Rattle.reports.proofs.Lowest.{first_refused_alike}
 use Rattle.codearrays.proofs.Decided.{decided_number}
-use Rattle.codearrays.proofs.Outcomes.{outputs_accepted, unlooked_reported, refused_leaves}
+use Rattle.codearrays.proofs.Outcomes.{number-accepted, outputs_accepted, unlooked_reported, refused_leaves}
 
 -- ---- what is decided before any word is looked at
 
@@ -66,6 +67,14 @@ module _ (f : Format) (accepted : format_refusal f ≡ 0) (refuses writes comput
   words_output =
       ap₂ (λ (r : Report) (l : List ℕ). cond (eqb r.number 0) l out) words_report
       (map_alike made writes xs 0 (λ i within. alike (get_or xs i 0)))
+
+-- ---- what the format and the lengths accept
+
+module _ (f : Format) (xs out : List ℕ) (l : Laid) (e : l ≡ laid f) (n : ℕ) (counted : n ≡ then_lengths l.number (length xs) (length out)) where
+  module _ (none : n ≡ 0) where
+    -- where the format and the lengths are accepted, the format has a code
+    has_code_lem : HasCode f
+    has_code_lem = accepted-has_code f (sym (laid_number f l e) ∙ number-accepted l.number (length xs) (length out) (sym counted ∙ none))
 
 -- ---- packing and unpacking by the format's layout
 
