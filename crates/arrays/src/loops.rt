@@ -96,7 +96,8 @@ fn round_each<T: Entry>(s: Settings, inputs: &Inputs<'_, T>, out: &mut [T], from
     requires done { RoundedTo (T.words inputs.now.words.now) (T.words inputs.now.xs.now) s from (T.words out.old) }
     ensures { T.words out.new ≡ rounded_all_by s (T.words inputs.now.words.now) (T.words inputs.now.xs.now) }
 {
-    for i in from..T::count(inputs.xs) {
+    let end = inputs.place_within(out, T::count(inputs.xs));
+    for i in from..end {
         T::put(
             out,
             i,
