@@ -11,7 +11,7 @@ use Rattle.grid.specs.declared.Format.{Format}
 use Rattle.layouts.specs.declared.Layout.{Layout}
 use Rattle.layouts.specs.Calls.{format_refusal}
 use Rattle.layouts.specs.Layouts.{Laid, layout, ready, refused, laid}
-use Rattle.layouts.proofs.Layouts.{laid_ready, laid_number, laid_layout}
+use Rattle.layouts.proofs.Layouts.{laid_ready, laid_number}
 use Rattle.codearrays.specs.Codes.{then_lengths}
 use Rattle.codearrays.specs.Loops.{decided}
 use Rattle.codearrays.proofs.Refusals.{format_refused}
@@ -24,21 +24,22 @@ module _ (f : Format) (inputs outputs : ℕ) where
   by_number d is = sym (simp (← is, ne_eqb (number_of d) 0 (number_some d)))
 
   -- where the format is accepted, the lengths decide
-  module _ (l : Layout) (e : ready l ≡ laid f) where
+  module _ (none : (laid f).number ≡ 0) where
     accepted : format_refusal f ≡ 0
-    accepted = sym (laid_number f (ready l) e)
+    accepted = sym (laid_number f (laid f) refl) ∙ none
 
     lengths_alone : then_lengths 0 inputs outputs ≡ then_lengths (format_refusal f) inputs outputs
     lengths_alone = ap (λ (n : ℕ). then_lengths n inputs outputs) (sym accepted)
 
-    pub decided_ready : 0 ≡ then_lengths 0 inputs outputs → ready l ≡ decided f inputs outputs
+    pub decided_ready : 0 ≡ then_lengths 0 inputs outputs → decided f inputs outputs ≡ laid f
     unfolding decided
-    decided_ready none =
-        let n = none ∙ lengths_alone in
-        ap ready (laid_layout f (ready l) e refl) ∙ sym (simp (← n))
+    decided_ready fit =
+        let n = fit ∙ lengths_alone in
+        let made : decided f inputs outputs ≡ ready (layout f) = simp (← n) in
+        made ∙ laid_ready f accepted (layout f) refl
 
-    pub decided_by_lengths : (d : Refusal) → number_of d ≡ then_lengths 0 inputs outputs → refused (number_of d) ≡ decided f inputs outputs
-    decided_by_lengths d is = by_number d (is ∙ lengths_alone)
+    pub decided_by_lengths : (d : Refusal) → number_of d ≡ then_lengths 0 inputs outputs → decided f inputs outputs ≡ refused (number_of d)
+    decided_by_lengths d is = sym (by_number d (is ∙ lengths_alone))
 
   -- where it is refused, that is the first refusal
   pub decided_first : (d : Refusal) → refused (number_of d) ≡ laid f → refused (number_of d) ≡ decided f inputs outputs

@@ -40,8 +40,8 @@ impl From<Result<(), Refused>> for Report {
         match outcome {
             Ok(()) => report_of(0),
             Err(refused) => Report {
-                number: refused.refusal.number(),
                 place: refused.place,
+                ..report_of(refused.refusal.number())
             },
         }
     }
