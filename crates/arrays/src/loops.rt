@@ -100,7 +100,8 @@ fn round_each<T: Entry>(s: Settings, inputs: &Inputs<'_, T>, out: &mut [T], from
     ensures written { T.words out.new ≡ rounded_all_by s (T.words inputs.now.words.now) (T.words inputs.now.xs.now) }
     ensures rest { T.rest out.new ≡ T.rest out.old }
 {
-    for i in from..T::count(inputs.xs) {
+    let end = inputs.place_within(out, T::count(inputs.xs));
+    for i in from..end {
         T::put(
             out,
             i,
