@@ -54,6 +54,7 @@ fn look_up_by<T: Entry>(
     requires done { RoundedTo (T.words inputs.now.words.now) (T.words inputs.now.xs.now) t.now.settings stretch.start (T.words out.old) }
     ensures outputs { length (T.words out.new) ≡ length (T.words inputs.now.xs.now) }
     ensures done { RoundedTo (T.words inputs.now.words.now) (T.words inputs.now.xs.now) t.now.settings stretch.end (T.words out.new) }
+    ensures rest { T.rest out.new ≡ T.rest out.old }
 {
     // copies, which the compiler need not read again behind each store
     let tables = *t;
@@ -82,6 +83,7 @@ fn look_up_shares<T: Entry>(
     requires done { RoundedTo (T.words inputs.now.words.now) (T.words inputs.now.xs.now) t.now.settings stretch.start (T.words out.old) }
     ensures outputs { length (T.words out.new) ≡ length (T.words inputs.now.xs.now) }
     ensures done { RoundedTo (T.words inputs.now.words.now) (T.words inputs.now.xs.now) t.now.settings stretch.end (T.words out.new) }
+    ensures rest { T.rest out.new ≡ T.rest out.old }
 {
     look_up_by(t, Mode::Stochastic(r), inputs, out, stretch);
 }
@@ -99,6 +101,7 @@ pub(crate) fn look_up<T: Entry>(
     requires done { RoundedTo (T.words inputs.now.words.now) (T.words inputs.now.xs.now) t.now.settings stretch.start (T.words out.old) }
     ensures outputs { length (T.words out.new) ≡ length (T.words inputs.now.xs.now) }
     ensures done { RoundedTo (T.words inputs.now.words.now) (T.words inputs.now.xs.now) t.now.settings stretch.end (T.words out.new) }
+    ensures rest { T.rest out.new ≡ T.rest out.old }
 {
     match t.settings.mode {
         Mode::TiesToEven => look_up_by(t, Mode::TiesToEven, inputs, out, stretch),

@@ -76,6 +76,7 @@ fn sweep_by<T: Entry, Q: Quick>(
     requires outputs { length (T.words out.old) ≡ length (T.words inputs.now.xs.now) }
     ensures outputs { length (T.words out.new) ≡ length (T.words inputs.now.xs.now) }
     ensures swept { SweptTo (RoundedTo (T.words inputs.now.words.now) (T.words inputs.now.xs.now)) l mode stretch.start stretch.end (result ≡ true) (T.words out.old) (T.words out.new) }
+    ensures rest { T.rest out.new ≡ T.rest out.old }
 {
     // copies, which the compiler need not read again behind each store
     let words = inputs.words;
@@ -103,6 +104,7 @@ fn sweep_shares<T: Entry, Q: Quick>(
     requires outputs { length (T.words out.old) ≡ length (T.words inputs.now.xs.now) }
     ensures outputs { length (T.words out.new) ≡ length (T.words inputs.now.xs.now) }
     ensures swept { SweptTo (RoundedTo (T.words inputs.now.words.now) (T.words inputs.now.xs.now)) l (Stochastic r) stretch.start stretch.end (result ≡ true) (T.words out.old) (T.words out.new) }
+    ensures rest { T.rest out.new ≡ T.rest out.old }
 {
     sweep_by::<T, Q>(l, Mode::Stochastic(r), inputs, out, stretch)
 }
@@ -120,6 +122,7 @@ fn sweep_in<T: Entry, Q: Quick>(
     requires outputs { length (T.words out.old) ≡ length (T.words inputs.now.xs.now) }
     ensures outputs { length (T.words out.new) ≡ length (T.words inputs.now.xs.now) }
     ensures swept { SweptTo (RoundedTo (T.words inputs.now.words.now) (T.words inputs.now.xs.now)) l mode stretch.start stretch.end (result ≡ true) (T.words out.old) (T.words out.new) }
+    ensures rest { T.rest out.new ≡ T.rest out.old }
 {
     match mode {
         Mode::TiesToEven => sweep_by::<T, Q>(l, Mode::TiesToEven, inputs, out, stretch),
@@ -148,6 +151,7 @@ pub(crate) fn sweep<T: Entry>(
     ensures outputs { length (T.words out.new) ≡ length (T.words inputs.now.xs.now) }
     ensures done { RoundedTo (T.words inputs.now.words.now) (T.words inputs.now.xs.now) s stretch.start (T.words out.new) }
     ensures swept { result ≡ true → RoundedTo (T.words inputs.now.words.now) (T.words inputs.now.xs.now) s stretch.end (T.words out.new) }
+    ensures rest { T.rest out.new ≡ T.rest out.old }
 {
     let l = limits_of(s);
     let mode = s.mode;

@@ -30,7 +30,8 @@ fn check_all<T: Entry, F: Fn(u64) -> Result<u64, Refusal>>(
 fn write_all<T: Entry, F: Fn(u64) -> Result<u64, Refusal>>(xs: &[T], out: &mut [T], convert: &F)
     requires callable { F.IsAlwaysCallable convert.now }
     requires long { length (T.words out.old) ≡ length (T.words xs.now) }
-    ensures { (refuses writes : ℕ → ℕ) → Follows (F.post convert.now) refuses writes → T.words out.new ≡ map writes (T.words xs.now) }
+    ensures written { (refuses writes : ℕ → ℕ) → Follows (F.post convert.now) refuses writes → T.words out.new ≡ map writes (T.words xs.now) }
+    ensures rest { T.rest out.new ≡ T.rest out.old }
 {
     for i in 0..T::count(xs) {
         let word = T::word_at(xs, i);
@@ -48,6 +49,7 @@ pub(crate) fn convert_all<T: Entry, F: Fn(u64) -> Result<u64, Refusal>>(
     requires long { length (T.words out.old) ≡ length (T.words xs.now) }
     ensures answer { (refuses writes : ℕ → ℕ) → Follows (F.post convert) refuses writes → reported_by result ≡ words_reported refuses (T.words xs.now) (T.words out.old) }
     ensures written { (refuses writes : ℕ → ℕ) → Follows (F.post convert) refuses writes → T.words out.new ≡ words_afterwards refuses writes (T.words xs.now) (T.words out.old) }
+    ensures rest { T.rest out.new ≡ T.rest out.old }
     ensures kept { OnErr result (out.new ≡ out.old) }
 {
     check_all(xs, &convert)?;

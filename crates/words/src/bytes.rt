@@ -1,7 +1,7 @@
 // Words among bytes: eight bytes a word, the low one first.
 ghost use Rattle.std.specs.Prelude.{◌≡◌, length};
 ghost use Rattle.std.specs.Int.{w64, to_le_bytes};
-ghost use Rattle.words.specs.Bytes.{words_of};
+ghost use Rattle.words.specs.Bytes.{words_of, rest_of};
 
 use super::Entry;
 
@@ -19,6 +19,8 @@ fn put_bytes(eight: &mut [u8], word: u64)
 
 impl Entry for u8 {
     ghost words = { words_of };
+
+    ghost rest = { rest_of };
 
     #[inline(always)]
     fn count(bytes: &[u8]) -> usize {

@@ -12,6 +12,9 @@ pub trait Entry: Copy {
     // the words in an array
     ghost words: { List Self → List ℕ };
 
+    // what stands behind the last word
+    ghost rest: { List Self → List Self };
+
     // Returns how many words there are.
     fn count(entries: &[Self]) -> usize
         ensures { result ≡ length (words entries.now) };
@@ -20,7 +23,8 @@ pub trait Entry: Copy {
     fn word_at(entries: &[Self], i: usize) -> u64
         ensures { result ≡ get_or (words entries.now) i 0 };
 
-    // Puts a word in the place of word i, if there is one.
+    // Puts a word in the place of word i, if there is one. Nothing else changes.
     fn put(entries: &mut [Self], i: usize, word: u64)
-        ensures { words entries.new ≡ set (words entries.old) i word };
+        ensures written { words entries.new ≡ set (words entries.old) i word }
+        ensures rest { rest entries.new ≡ rest entries.old };
 }

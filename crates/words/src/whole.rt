@@ -1,8 +1,12 @@
-// Words that are entries of their own.
+// Words that are entries of their own: nothing stands behind the last one.
+ghost use Rattle.std.specs.Prelude.{[]};
+
 use super::Entry;
 
 impl Entry for u64 {
     ghost words = { λ entries. entries };
+
+    ghost rest = { λ entries. [] };
 
     #[inline(always)]
     fn count(entries: &[u64]) -> usize {

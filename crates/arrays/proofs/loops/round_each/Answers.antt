@@ -14,7 +14,8 @@ loop-i-preserved g c =
       one_more_rounded c.args.s (words inputs.words.now) (words inputs.xs.now) (words c.loop-i.out) c.loop-i.i (search rules) (search rules)
           (length (words inputs.xs.now)) (search rules) (le_refl (length (words inputs.xs.now))) c.word_at.result (search rules) c.word_at-in-loop-i.result (search rules)
           c.round_by.result (search rules) (words c.put.new.entries) (search rules),
+      search rules,
     )
 
-pub returns : goal.returns
-returns g c = search (all_rounded, rules)
+pub returns-clause-written : goal.returns-clause-written
+returns-clause-written g c = search (all_rounded, rules)

@@ -11,6 +11,7 @@ loop-i-preserved g c =
       search rules,
       search stored_long,
       search (quick_turn g.Q.Quick.rule g.met.Q.Quick.rounds),
+      search rules,
     )
 
 pub returns-clause-swept : goal.returns-clause-swept

@@ -25,4 +25,4 @@ returns-clause-answer g c refuses writes follows =
 pub returns-clause-written : goal.returns-clause-written
 returns-clause-written g c refuses writes follows =
     made_output refuses _ _ _ _ refl refl (accepts_output 0 _ _ refl c.requires.long)
-    (c.in_ok-check_all.ensures refuses writes follows) writes _ (c.write_all.ensures refuses writes follows)
+    (c.in_ok-check_all.ensures refuses writes follows) writes _ (c.write_all.ensures.written refuses writes follows)
