@@ -100,13 +100,12 @@ fn round_each<T: Entry>(s: Settings, inputs: &Inputs<'_, T>, out: &mut [T], from
     ensures written { T.words out.new ≡ rounded_all_by s (T.words inputs.now.words.now) (T.words inputs.now.xs.now) }
     ensures rest { T.rest out.new ≡ T.rest out.old }
 {
-    let end = inputs.place_within(out, T::count(inputs.xs));
+    // copies, which the compiler need not read again behind each store
+    let words = inputs.words;
+    let xs = inputs.xs;
+    let end = inputs.place_within(out, T::count(xs));
     for i in from..end {
-        T::put(
-            out,
-            i,
-            round_by(s, T::word_at(inputs.words, i), T::word_at(inputs.xs, i)),
-        );
+        T::put(out, i, round_by(s, T::word_at(words, i), T::word_at(xs, i)));
     }
 }
 
