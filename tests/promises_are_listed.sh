@@ -1,10 +1,10 @@
 #!/usr/bin/env bash
-# docs/PROMISES.md has a row for every function that another crate can call, a public one or one of a public trait, with that function's
-# uniqueness fact and at least two wrong answers that it rules out, each in a must-fail edit of that
-# function's crate; the fact is about that function's promise, and about what it leaves in a lent array
-# too if it is lent one to write; no such function asks anything of its caller. The page lists every wrong
-# answer, and every statement that specs/ names as a whole has a law in it; a fact's row names the file
-# that its laws are in; and the page names no function, fact, law, file or wrong answer that is not there.
+# docs/PROMISES.md has a row for every function that another crate can call, a public one or one of a public
+# trait, with that function's uniqueness fact and at least two wrong answers that it rules out, each in a
+# must-fail edit of that function's crate; the fact is about that function's promise, and about what it leaves
+# in a lent array too if it is lent one to write; no such function asks anything of its caller. The page lists
+# every wrong answer, and every statement that specs/ names as a whole has a law in it; a fact's row names the
+# file that its laws are in; and the page names no function, fact, law, file or wrong answer that is not there.
 # Whether any other fact is missing from the page it cannot tell. The crate host_c exports the functions of
 # the crate host, each with the very promise that it has there.
 set -euo pipefail
@@ -83,7 +83,10 @@ while IFS='|' read -r _ function _ _ _ unique ruled_out _; do
     grep -q '&mut ' <<<"$contract" && outcome=OneOutcome
     [ "$(tr -d '` ' <<<"$unique")" = "$fact" ] ||
         complain "the row of $function names another uniqueness fact"
-    grep -rqE -- "^ *pub $fact : $outcome \(?$function(-[a-z0-9]+)?\.Post" crates/*/proofs/Unique.antt ||
+    # a function of a trait has a promise at each type, and the fact is about one of them
+    at=
+    grep -rqE "^ *pub (extern \"C\" )?fn $function[<(]" "${sources[@]}" || at='-[a-z0-9]+'
+    grep -rqE -- "^ *pub $fact : $outcome \(?$function$at\.Post" crates/*/proofs/Unique.antt ||
         complain "no fact $fact : $outcome $function.Post"
     grep -qE '^ *requires' <<<"$contract" &&
         complain "the function $function asks something of its caller"

@@ -13,8 +13,8 @@ pub(crate) struct Inputs<'a, T: Entry> {
 }
 
 impl<T: Entry> Inputs<'_, T> {
-    // The same place, up to which a loop goes. It is reckoned by the arrays' lengths, so that the compiler sees that no place
-    // below it lies past an array's end, and tests none.
+    // The same place, where a loop ends, reckoned by the three arrays' lengths: so the compiler sees that the loop stays
+    // within each array, and tests no place.
     #[inline(always)]
     pub(crate) fn place_within(&self, out: &[T], place: usize) -> usize
         requires inputs { place ≤ length (T.words self.now.xs.now) }

@@ -1,4 +1,4 @@
-// Printing an answer, line after line, on an empty page, which is lent down the calls: so there is one of them at a time.
+// Printing an answer, line after line, on an empty page that is lent down the calls, so that there is one page at a time.
 ghost use Rattle.std.specs.Prelude.{◌≡◌, ◌≤◌, [], length};
 ghost use Rattle.refusals.specs.Refusals.{number_of};
 ghost use Rattle.reports.specs.Reports.{reported_by};
