@@ -1,10 +1,10 @@
 #!/usr/bin/env bash
-# docs/PROMISES.md has a row for every function that another crate can call, with that function's
-# uniqueness fact and at least two wrong answers that it rules out, each in a must-fail edit of that
-# function's crate; the fact is about that function's promise, and about what it leaves in a lent array
-# too if it is lent one to write; no such function asks anything of its caller. The page lists every wrong
-# answer, and every statement that specs/ names as a whole has a law in it; a fact's row names the file
-# that its laws are in; and the page names no function, fact, law, file or wrong answer that is not there.
+# docs/PROMISES.md has a row for every function that another crate can call, a public one or one of a public
+# trait, with that function's uniqueness fact and at least two wrong answers that it rules out, each in a
+# must-fail edit of that function's crate; the fact is about that function's promise, and about what it leaves
+# in a lent array too if it is lent one to write; no such function asks anything of its caller. The page lists
+# every wrong answer, and every statement that specs/ names as a whole has a law in it; a fact's row names the
+# file that its laws are in; and the page names no function, fact, law, file or wrong answer that is not there.
 # Whether any other fact is missing from the page it cannot tell. The crate host_c exports the functions of
 # the crate host, each with the very promise that it has there.
 set -euo pipefail
@@ -47,33 +47,52 @@ for source in crates/*/src; do
     [ "$source" = crates/host_c/src ] || sources+=("$source")
 done
 
-# contract_of FUNCTION FOLDER...: what stands between a function's name and its body, parameters and contract
-contract_of() {
-    local name=$1 files
-    shift
+# callable FOLDER...: the functions that other crates can call, public ones and those of public traits, a line each:
+# the file, the name, and what stands between the name and the body, parameters and contract
+callable() {
+    local files
     mapfile -t files < <(find "$@" -name '*.rt')
-    awk -v name="$name" '
-        $0 ~ "^ *pub (extern \"C\" )?fn " name "[<(]" { inside = 1; sub(/pub (extern "C" )?fn/, "fn") }
-        inside { print }
-        inside && /\{$/ { exit }' "${files[@]}"
+    awk '
+        FNR == 1 || /^}/ { trait = 0 }
+        /^pub trait / { trait = 1 }
+        /^ *pub (extern "C" )?fn / || (trait && /^ *fn /) {
+            inside = 1
+            text = ""
+            name = $0
+            sub(/^ *(pub )?(extern "C" )?fn /, "", name)
+            sub(/[<(].*/, "", name)
+            sub(/(pub )?(extern "C" )?fn/, "fn")
+        }
+        inside { text = text "\\n" $0 }
+        inside && /[{;]$/ { print FILENAME "\t" name "\t" text; inside = 0 }' "${files[@]}"
+}
+
+all_callable=$(callable "${sources[@]}")
+
+# contract_of FUNCTION: of what `callable` prints, the last of it, in lines again
+contract_of() {
+    awk -F '\t' -v name="$1" '$2 == name { gsub(/\\n/, "\n", $3); print $3 }'
 }
 
 # a row: function | refuses | answer | definition | unique | ruled out
 while IFS='|' read -r _ function _ _ _ unique ruled_out _; do
     function=$(tr -d '` ' <<<"$function")
     fact=${function}_unique
-    contract=$(contract_of "$function" "${sources[@]}")
+    contract=$(contract_of "$function" <<<"$all_callable")
     outcome=OneAnswer
     grep -q '&mut ' <<<"$contract" && outcome=OneOutcome
     [ "$(tr -d '` ' <<<"$unique")" = "$fact" ] ||
         complain "the row of $function names another uniqueness fact"
-    grep -rqE -- "^ *pub $fact : $outcome \(?$function\.Post" crates/*/proofs/Unique.antt ||
+    # a function of a trait has a promise at each type, and the fact is about one of them
+    at=
+    grep -rqE "^ *pub (extern \"C\" )?fn $function[<(]" "${sources[@]}" || at='-[a-z0-9]+'
+    grep -rqE -- "^ *pub $fact : $outcome \(?$function$at\.Post" crates/*/proofs/Unique.antt ||
         complain "no fact $fact : $outcome $function.Post"
     grep -qE '^ *requires' <<<"$contract" &&
         complain "the function $function asks something of its caller"
     [ "$(quoted "$ruled_out" | sort -u | wc -l)" -ge 2 ] ||
         complain "the row of $function rules out fewer than two wrong answers"
-    crate=$(grep -rlE "^ *pub (extern \"C\" )?fn $function[<(]" "${sources[@]}" | cut -d / -f 2 || true)
+    crate=$(awk -F '\t' -v name="$function" '$2 == name { print $1 }' <<<"$all_callable" | cut -d / -f 2)
     for answer in $(quoted "$ruled_out"); do
         wrong_answers "$crate" | grep -qxF -- "$answer" ||
             complain "the row of $function names $answer, which is in no edit of the crate ${crate:-?}"
@@ -105,7 +124,7 @@ functions=0
 while read -r name; do
     functions=$((functions + 1))
     grep -q "^| \`$name\` |" <<<"$rows" || complain "no row for the function $name"
-done < <(grep -rhoE '^ *pub (extern "C" )?fn [a-z0-9_]+' crates/*/src | awk '{ print $NF }' | sort -u)
+done < <(cut -f 2 <<<"$all_callable" | sort -u)
 
 # the same text however it is laid out
 unspaced() {
@@ -116,7 +135,7 @@ unspaced() {
 while read -r name; do
     grep -rqE "^ *pub extern \"C\" fn $name[<(]" crates/host_c/src ||
         complain "the crate host_c does not export the function $name of the crate host"
-    [ "$(contract_of "$name" crates/host_c/src | unspaced)" = "$(contract_of "$name" crates/host/src | unspaced)" ] ||
+    [ "$(callable crates/host_c/src | contract_of "$name" | unspaced)" = "$(callable crates/host/src | contract_of "$name" | unspaced)" ] ||
         complain "the crate host_c exports $name with another promise than the crate host has"
 done < <(grep -rhoE '^ *pub fn [a-z0-9_]+' crates/host/src | awk '{ print $NF }')
 

@@ -1,13 +1,15 @@
 -- What an array call decides, as the code comes to it. Assumes nothing.
+use mathlib.Core.Bool.{Bool, true, not}
 use mathlib.Core.Path.{◌≡◌, sym, ap, ◌∙◌}
 use Prim.Native.Nat.{ℕ}
-use borrow.Author.Tests.{ne_eqb}
+use borrow.Author.Tests.{not-true, eq-eqb, ne_eqb}
 use Rattle.refusals.specs.declared.Refusal.{Refusal}
 use Rattle.refusals.specs.Refusals.{number_of}
 use Rattle.refusals.proofs.Apart.{number_some}
 use Rattle.grid.specs.declared.Format.{Format}
 use Rattle.magnitudes.specs.declared.Settings.{Settings}
-use Rattle.magnitudes.specs.Modes.{mode_of}
+use Rattle.magnitudes.specs.declared.Mode.{Mode}
+use Rattle.magnitudes.specs.Modes.{mode_of, uses_word}
 use Rattle.magnitudes.specs.BySettings.{settings}
 use Rattle.rounding.specs.Calls.{refusal}
 use Rattle.rounding.specs.BySettings.{Ready, Refused, unless_refused, prepared}
@@ -15,6 +17,17 @@ use Rattle.rounding.proofs.Preparations.{ready-none, ready-settings, refused_is,
 use Rattle.arrays.specs.Rounding.{lengths_refusal, array_refusal}
 use Rattle.arrays.specs.Loops.{decided}
 use Rattle.arrays.proofs.Accepted.{by_lengths_alone}
+
+-- ---- what the lengths refuse
+
+module _ (mode : Mode) (words inputs outputs : ℕ) where
+  module _ (same : outputs ≡ inputs) (b : Bool) (tested : b ≡ uses_word mode) where
+    -- a mode that uses no word needs none: where the output is as long as the input, the lengths refuse nothing
+    pub needs_no_words : not b ≡ true → 0 ≡ lengths_refusal mode words inputs outputs
+    unfolding lengths_refusal
+    needs_no_words unused = simp (eq-eqb outputs inputs same, ← tested, not-true b unused)
+
+-- ---- what is decided
 
 module _ (f : Format) (mode r words inputs outputs : ℕ) where
   module _ (s : Settings) (ready : Ready s ≡ prepared f mode r) where

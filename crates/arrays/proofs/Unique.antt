@@ -1,7 +1,9 @@
 -- Every promise of this crate leaves one outcome: two results that it allows for the same arguments are equal, and so are two
 -- outputs. Each is an equation with the definition that the contract names, so two of them meet there. The arrays that are only
 -- read cannot change. Assumes nothing.
-use mathlib.Core.Path.{sym, ◌∙◌}
+use mathlib.Core.List.{List}
+use mathlib.Core.Path.{sym, ap₂, ◌∙◌}
+use Prim.Native.Nat.{ℕ}
 use denote.RattleType.{RattleType}
 use denote.Param.Laws.{Laws, IsCopy}
 use mir.Syntax.{Dict}
@@ -20,8 +22,16 @@ uses_word_unique κs a y z s t p q = p ∙ sym q
 pub decide_unique : OneAnswer decide.Post
 decide_unique κs a y z s t p q = preparations_apart y z (p ∙ sym q)
 
--- whatever the arrays are made of, the words in `out`, the last of the six parameters, as `round_array` returns
+-- whatever the arrays are made of, the words in `out`, the last of the six parameters, as `round_array` returns, and what stands
+-- behind them
 module _ (T : RattleType) (laws : Laws T) (copies : IsCopy T) (entry : Entry.Ghosts T.Denot) (methods : Dict) (clone : Clone.Ghosts T.Denot)
     (clones : Dict) where
-  pub round_array_unique : OneOutcome (round_array.Post T laws copies entry methods clone clones) (λ κs lent. entry.words lent.1.1.1.1.1.0.now)
-  round_array_unique κs a y z s t p q = (reports_apart y z (p.0 ∙ sym q.0), p.1.0 ∙ sym q.1.0)
+  -- what an array holds
+  abbrev held : List T.Denot → List ℕ × List T.Denot
+  held entries = (entry.words entries, entry.rest entries)
+
+  pub round_array_unique : OneOutcome (round_array.Post T laws copies entry methods clone clones) (λ κs lent. held lent.1.1.1.1.1.0.now)
+  round_array_unique κs a y z s t p q = (
+    reports_apart y z (p.0 ∙ sym q.0),
+    ap₂ (λ (ws : List ℕ) (left : List T.Denot). (ws, left)) (p.1.0 ∙ sym q.1.0) (p.1.1.0 ∙ sym q.1.1.0),
+  )

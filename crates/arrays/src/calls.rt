@@ -11,6 +11,7 @@ use reports::Refused;
 use words::Entry;
 
 // Rounds every pattern of xs into out, place i with word i in modes 7 and 8; or refuses, and leaves out as it was.
+// What stands behind the last word of out stays.
 // In the other modes no word is looked at: the loop is lent xs in their place.
 pub fn round_array<T: Entry>(
     format: Format,
@@ -22,6 +23,7 @@ pub fn round_array<T: Entry>(
 ) -> Result<(), Refused>
     ensures answer { reported_by result ≡ reported format mode r (T.words words.now) (T.words xs.now) (T.words out.old) }
     ensures written { T.words out.new ≡ afterwards format mode r (T.words words.now) (T.words xs.now) (T.words out.old) }
+    ensures rest { T.rest out.new ≡ T.rest out.old }
     ensures kept { OnErr result (out.new ≡ out.old) }
 {
     let s = decide(

@@ -1,5 +1,5 @@
 // What is rounded: the patterns, and the random words.
-ghost use Rattle.std.specs.Prelude.{◌≤◌, length};
+ghost use Rattle.std.specs.Prelude.{◌≡◌, ◌≤◌, length};
 
 use words::Entry;
 
@@ -10,4 +10,20 @@ pub(crate) struct Inputs<'a, T: Entry> {
     pub(crate) words: &'a [T],
     pub(crate) xs: &'a [T],
     ghost enough: { length (T.words xs.now) ≤ length (T.words words.now) },
+}
+
+impl<T: Entry> Inputs<'_, T> {
+    // The same place, where a loop ends, reckoned by the three arrays' lengths: so the compiler sees that the loop stays
+    // within each array, and tests no place.
+    #[inline(always)]
+    pub(crate) fn place_within(&self, out: &[T], place: usize) -> usize
+        requires inputs { place ≤ length (T.words self.now.xs.now) }
+        requires outputs { length (T.words out.now) ≡ length (T.words self.now.xs.now) }
+        ensures { result ≡ place }
+    {
+        place
+            .min(T::count(self.words))
+            .min(T::count(self.xs))
+            .min(T::count(out))
+    }
 }

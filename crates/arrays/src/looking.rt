@@ -54,6 +54,7 @@ fn look_up_by<T: Entry>(
     requires done { RoundedTo (T.words inputs.now.words.now) (T.words inputs.now.xs.now) t.now.settings stretch.start (T.words out.old) }
     ensures outputs { length (T.words out.new) ≡ length (T.words inputs.now.xs.now) }
     ensures done { RoundedTo (T.words inputs.now.words.now) (T.words inputs.now.xs.now) t.now.settings stretch.end (T.words out.new) }
+    ensures rest { T.rest out.new ≡ T.rest out.old }
 {
     // copies, which the compiler need not read again behind each store
     let tables = *t;
@@ -61,7 +62,8 @@ fn look_up_by<T: Entry>(
         words: inputs.words,
         xs: inputs.xs,
     };
-    for i in stretch.start..stretch.end {
+    let end = lent.place_within(out, stretch.end);
+    for i in stretch.start..end {
         T::put(out, i, tables.round_at(mode, &lent, i));
     }
 }
@@ -81,6 +83,7 @@ fn look_up_shares<T: Entry>(
     requires done { RoundedTo (T.words inputs.now.words.now) (T.words inputs.now.xs.now) t.now.settings stretch.start (T.words out.old) }
     ensures outputs { length (T.words out.new) ≡ length (T.words inputs.now.xs.now) }
     ensures done { RoundedTo (T.words inputs.now.words.now) (T.words inputs.now.xs.now) t.now.settings stretch.end (T.words out.new) }
+    ensures rest { T.rest out.new ≡ T.rest out.old }
 {
     look_up_by(t, Mode::Stochastic(r), inputs, out, stretch);
 }
@@ -98,6 +101,7 @@ pub(crate) fn look_up<T: Entry>(
     requires done { RoundedTo (T.words inputs.now.words.now) (T.words inputs.now.xs.now) t.now.settings stretch.start (T.words out.old) }
     ensures outputs { length (T.words out.new) ≡ length (T.words inputs.now.xs.now) }
     ensures done { RoundedTo (T.words inputs.now.words.now) (T.words inputs.now.xs.now) t.now.settings stretch.end (T.words out.new) }
+    ensures rest { T.rest out.new ≡ T.rest out.old }
 {
     match t.settings.mode {
         Mode::TiesToEven => look_up_by(t, Mode::TiesToEven, inputs, out, stretch),

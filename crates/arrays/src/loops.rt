@@ -28,6 +28,7 @@ fn sweep_on<T: Entry>(s: Settings, inputs: &Inputs<'_, T>, out: &mut [T]) -> usi
     ensures within { result ≤ length (T.words inputs.now.xs.now) }
     ensures outputs { length (T.words out.new) ≡ length (T.words inputs.now.xs.now) }
     ensures done { RoundedTo (T.words inputs.now.words.now) (T.words inputs.now.xs.now) s result (T.words out.new) }
+    ensures rest { T.rest out.new ≡ T.rest out.old }
 {
     let n = T::count(inputs.xs);
     let mut from = 0;
@@ -46,7 +47,8 @@ fn look_on<T: Entry>(t: &Tables<'_>, inputs: &Inputs<'_, T>, out: &mut [T], from
     requires outputs { length (T.words out.old) ≡ length (T.words inputs.now.xs.now) }
     requires starts { from ≤ length (T.words inputs.now.xs.now) }
     requires done { RoundedTo (T.words inputs.now.words.now) (T.words inputs.now.xs.now) t.now.settings from (T.words out.old) }
-    ensures { T.words out.new ≡ rounded_all_by t.now.settings (T.words inputs.now.words.now) (T.words inputs.now.xs.now) }
+    ensures written { T.words out.new ≡ rounded_all_by t.now.settings (T.words inputs.now.words.now) (T.words inputs.now.xs.now) }
+    ensures rest { T.rest out.new ≡ T.rest out.old }
 {
     let n = T::count(inputs.xs);
     let mut patience = FIRST_PATIENCE;
@@ -75,7 +77,8 @@ fn round_by_tables<T: Entry>(s: Settings, inputs: &Inputs<'_, T>, out: &mut [T],
     requires outputs { length (T.words out.old) ≡ length (T.words inputs.now.xs.now) }
     requires starts { from ≤ length (T.words inputs.now.xs.now) }
     requires done { RoundedTo (T.words inputs.now.words.now) (T.words inputs.now.xs.now) s from (T.words out.old) }
-    ensures { T.words out.new ≡ rounded_all_by s (T.words inputs.now.words.now) (T.words inputs.now.xs.now) }
+    ensures written { T.words out.new ≡ rounded_all_by s (T.words inputs.now.words.now) (T.words inputs.now.xs.now) }
+    ensures rest { T.rest out.new ≡ T.rest out.old }
 {
     let mut places = [0; 2048];
     let mut rows = [0; 512];
@@ -94,21 +97,23 @@ fn round_each<T: Entry>(s: Settings, inputs: &Inputs<'_, T>, out: &mut [T], from
     requires outputs { length (T.words out.old) ≡ length (T.words inputs.now.xs.now) }
     requires starts { from ≤ length (T.words inputs.now.xs.now) }
     requires done { RoundedTo (T.words inputs.now.words.now) (T.words inputs.now.xs.now) s from (T.words out.old) }
-    ensures { T.words out.new ≡ rounded_all_by s (T.words inputs.now.words.now) (T.words inputs.now.xs.now) }
+    ensures written { T.words out.new ≡ rounded_all_by s (T.words inputs.now.words.now) (T.words inputs.now.xs.now) }
+    ensures rest { T.rest out.new ≡ T.rest out.old }
 {
-    for i in from..T::count(inputs.xs) {
-        T::put(
-            out,
-            i,
-            round_by(s, T::word_at(inputs.words, i), T::word_at(inputs.xs, i)),
-        );
+    // copies, which the compiler need not read again behind each store
+    let words = inputs.words;
+    let xs = inputs.xs;
+    let end = inputs.place_within(out, T::count(xs));
+    for i in from..end {
+        T::put(out, i, round_by(s, T::word_at(words, i), T::word_at(xs, i)));
     }
 }
 
 // Rounds every place by the settings into out.
 pub(crate) fn round_all<T: Entry>(s: Settings, inputs: &Inputs<'_, T>, out: &mut [T])
     requires outputs { length (T.words out.old) ≡ length (T.words inputs.now.xs.now) }
-    ensures { T.words out.new ≡ rounded_all_by s (T.words inputs.now.words.now) (T.words inputs.now.xs.now) }
+    ensures written { T.words out.new ≡ rounded_all_by s (T.words inputs.now.words.now) (T.words inputs.now.xs.now) }
+    ensures rest { T.rest out.new ≡ T.rest out.old }
 {
     let from = sweep_on(s, inputs, out);
     if T::count(inputs.xs) - from < WORTH_TABLES {

@@ -76,12 +76,14 @@ fn sweep_by<T: Entry, Q: Quick>(
     requires outputs { length (T.words out.old) ≡ length (T.words inputs.now.xs.now) }
     ensures outputs { length (T.words out.new) ≡ length (T.words inputs.now.xs.now) }
     ensures swept { SweptTo (RoundedTo (T.words inputs.now.words.now) (T.words inputs.now.xs.now)) l mode stretch.start stretch.end (result ≡ true) (T.words out.old) (T.words out.new) }
+    ensures rest { T.rest out.new ≡ T.rest out.old }
 {
     // copies, which the compiler need not read again behind each store
     let words = inputs.words;
     let xs = inputs.xs;
+    let end = inputs.place_within(out, stretch.end);
     let mut unfit = 0;
-    for i in stretch.start..stretch.end {
+    for i in stretch.start..end {
         let swept = Q::swept(l, mode, T::word_at(words, i), T::word_at(xs, i));
         T::put(out, i, swept.answer);
         unfit |= swept.unfit;
@@ -102,6 +104,7 @@ fn sweep_shares<T: Entry, Q: Quick>(
     requires outputs { length (T.words out.old) ≡ length (T.words inputs.now.xs.now) }
     ensures outputs { length (T.words out.new) ≡ length (T.words inputs.now.xs.now) }
     ensures swept { SweptTo (RoundedTo (T.words inputs.now.words.now) (T.words inputs.now.xs.now)) l (Stochastic r) stretch.start stretch.end (result ≡ true) (T.words out.old) (T.words out.new) }
+    ensures rest { T.rest out.new ≡ T.rest out.old }
 {
     sweep_by::<T, Q>(l, Mode::Stochastic(r), inputs, out, stretch)
 }
@@ -119,6 +122,7 @@ fn sweep_in<T: Entry, Q: Quick>(
     requires outputs { length (T.words out.old) ≡ length (T.words inputs.now.xs.now) }
     ensures outputs { length (T.words out.new) ≡ length (T.words inputs.now.xs.now) }
     ensures swept { SweptTo (RoundedTo (T.words inputs.now.words.now) (T.words inputs.now.xs.now)) l mode stretch.start stretch.end (result ≡ true) (T.words out.old) (T.words out.new) }
+    ensures rest { T.rest out.new ≡ T.rest out.old }
 {
     match mode {
         Mode::TiesToEven => sweep_by::<T, Q>(l, Mode::TiesToEven, inputs, out, stretch),
@@ -147,6 +151,7 @@ pub(crate) fn sweep<T: Entry>(
     ensures outputs { length (T.words out.new) ≡ length (T.words inputs.now.xs.now) }
     ensures done { RoundedTo (T.words inputs.now.words.now) (T.words inputs.now.xs.now) s stretch.start (T.words out.new) }
     ensures swept { result ≡ true → RoundedTo (T.words inputs.now.words.now) (T.words inputs.now.xs.now) s stretch.end (T.words out.new) }
+    ensures rest { T.rest out.new ≡ T.rest out.old }
 {
     let l = limits_of(s);
     let mode = s.mode;

@@ -13,7 +13,6 @@ use Rattle.reports.specs.declared.Report.{Report}
 use Rattle.reports.specs.Reports.{report, report_at, first_refused}
 use Rattle.codearrays.specs.Codes.{then_lengths}
 use Rattle.codearrays.specs.Loops.{words_reported, words_afterwards}
-use Rattle.codearrays.proofs.Outcomes.{outputs_accepted}
 
 module _ (refuses : ℕ → ℕ) (xs out : List ℕ) where
   -- a refused call leaves what there was
@@ -23,33 +22,20 @@ module _ (refuses : ℕ → ℕ) (xs out : List ℕ) where
   left_alone writes e place is = sym (simp (← is, ne_eqb (number_of e) 0 (number_some e)))
 
   module _ (inputs outputs : ℕ) (many : inputs ≡ length xs) (places : outputs ≡ length out) where
-    decided : then_lengths 0 inputs outputs ≡ then_lengths 0 (length xs) (length out)
-    decided = ap₂ (then_lengths 0) many places
+    counted_is : then_lengths 0 inputs outputs ≡ then_lengths 0 (length xs) (length out)
+    counted_is = ap₂ (then_lengths 0) many places
 
-    -- the lengths come first
-    module _ (e : Refusal) (is : number_of e ≡ then_lengths 0 inputs outputs) where
-      pub lengths_report : report (number_of e) ≡ words_reported refuses xs out
-      unfolding words_reported
-      lengths_report = let d = is ∙ decided in sym (simp (← d, ne_eqb (number_of e) 0 (number_some e)))
-
-      pub lengths_output : (writes : ℕ → ℕ) → out ≡ words_afterwards refuses writes xs out
-      lengths_output writes = left_alone writes e 0 lengths_report
-
-    -- and where they fit, the words decide
+    -- where the lengths fit, the words decide
     module _ (fits : 0 ≡ then_lengths 0 inputs outputs) where
       pub found_report : (r : Report) → r ≡ first_refused refuses 0 xs → r ≡ words_reported refuses xs out
       unfolding words_reported
-      found_report r found = let d = fits ∙ decided in found ∙ sym (simp (← d))
+      found_report r found = let d = fits ∙ counted_is in found ∙ sym (simp (← d))
 
       pub found_output : (e : Refused) → report_at (number_of e.refusal) e.place ≡ first_refused refuses 0 xs → (writes : ℕ → ℕ)
           → out ≡ words_afterwards refuses writes xs out
       found_output e found writes = left_alone writes e.refusal e.place (found_report (report_at (number_of e.refusal) e.place) found)
 
-      -- there are as many places to write as to read,
-      pub same_lengths : length out ≡ length xs
-      same_lengths = outputs_accepted 0 (length xs) (length out) (sym (fits ∙ decided))
-
-      -- and each holds what was made of its word
+      -- and each place holds what was made of its word
       pub made_output : report 0 ≡ first_refused refuses 0 xs → (writes : ℕ → ℕ) (after : List ℕ) → after ≡ map writes xs
           → after ≡ words_afterwards refuses writes xs out
       unfolding words_afterwards

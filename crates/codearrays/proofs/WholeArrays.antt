@@ -13,7 +13,8 @@ use Rattle.refusals.proofs.Apart.{number_some}
 use Rattle.grid.specs.declared.Format.{Format}
 use Rattle.layouts.specs.declared.Layout.{Layout}
 use Rattle.layouts.specs.Calls.{format_refusal}
-use Rattle.layouts.specs.Layouts.{ready, refused, laid}
+use Rattle.layouts.specs.Fields.{HasCode}
+use Rattle.layouts.specs.Layouts.{Laid, ready, refused, laid}
 use Rattle.layouts.proofs.Layouts.{laid_number, laid_layout}
 use Rattle.layouts.proofs.Refusals.{accepted-has_code}
 use Rattle.bylayout.specs.Answers.{Packed, Unpacked}
@@ -24,27 +25,31 @@ use Rattle.codes.proofs.UnpackedByLayout.{unpacked_by-layout}
 use Rattle.reports.specs.declared.Report.{Report}
 use Rattle.reports.specs.Reports.{report}
 use Rattle.codearrays.specs.Codes.{then_lengths, codes_refusal, codes_reported, codes_afterwards, pack_number, pack_code, unpack_number, unpack_pattern}
-use Rattle.codearrays.specs.Loops.{pack_number_by, pack_code_by, unpack_number_by, unpack_pattern_by, words_reported, words_afterwards}
+use Rattle.codearrays.specs.Loops.{decided, pack_number_by, pack_code_by, unpack_number_by, unpack_pattern_by, words_reported, words_afterwards}
 use Rattle.reports.proofs.Lowest.{first_refused_alike}
-use Rattle.codearrays.proofs.Refusals.{format_refused}
-use Rattle.codearrays.proofs.Outcomes.{unlooked_reported, refused_leaves}
+use Rattle.codearrays.proofs.Decided.{decided_number}
+use Rattle.codearrays.proofs.Outcomes.{number-accepted, outputs_accepted, unlooked_reported, refused_leaves}
 
--- ---- a format that is refused
+-- ---- what is decided before any word is looked at
 
-module _ (f : Format) (xs out : List ℕ) (d : Refusal) (e : refused (number_of d) ≡ laid f) (refuses writes : ℕ → ℕ) where
-  number : number_of d ≡ format_refusal f
-  number = laid_number f (refused (number_of d)) e
+module _ (f : Format) (xs out : List ℕ) (inputs outputs : ℕ) (many : inputs ≡ length xs) (places : outputs ≡ length out) where
+  by_lengths : then_lengths (format_refusal f) inputs outputs ≡ codes_refusal f xs out
+  by_lengths = ap₂ (then_lengths (format_refusal f)) many places
 
-  first : number_of d ≡ codes_refusal f xs out
-  first =
-      format_refused (number_of d) (length xs) (length out) (number_some d)
-      ∙ ap (λ (n : ℕ). then_lengths n (length xs) (length out)) number
+  -- a refusal of the format or of the lengths
+  module _ (d : Refusal) (e : refused (number_of d) ≡ decided f inputs outputs) (refuses writes : ℕ → ℕ) where
+    first : number_of d ≡ codes_refusal f xs out
+    first = decided_number f inputs outputs (refused (number_of d)) e ∙ by_lengths
 
-  pub format_report : report (number_of d) ≡ codes_reported refuses f xs out
-  format_report = sym (unlooked_reported refuses f xs out (λ none. number_some d (first ∙ none)) ∙ ap report (sym first))
+    pub decided_report : report (number_of d) ≡ codes_reported refuses f xs out
+    decided_report = sym (unlooked_reported refuses f xs out (λ none. number_some d (first ∙ none)) ∙ ap report (sym first))
 
-  pub format_output : out ≡ codes_afterwards refuses writes f xs out
-  format_output = sym (refused_leaves refuses writes f xs out (λ none. number_some d (ap (λ (r : Report). r.number) format_report ∙ none)))
+    pub decided_output : out ≡ codes_afterwards refuses writes f xs out
+    decided_output = sym (refused_leaves refuses writes f xs out (λ none. number_some d (ap (λ (r : Report). r.number) decided_report ∙ none)))
+
+  -- where there is none, there are as many places to write as to read
+  pub decided_long : (l : Layout) → ready l ≡ decided f inputs outputs → length out ≡ length xs
+  decided_long l e = outputs_accepted (format_refusal f) (length xs) (length out) (sym (decided_number f inputs outputs (ready l) e ∙ by_lengths))
 
 -- ---- one that is accepted: the words decide, by any rules that are computed as they are meant
 
@@ -62,6 +67,14 @@ module _ (f : Format) (accepted : format_refusal f ≡ 0) (refuses writes comput
   words_output =
       ap₂ (λ (r : Report) (l : List ℕ). cond (eqb r.number 0) l out) words_report
       (map_alike made writes xs 0 (λ i within. alike (get_or xs i 0)))
+
+-- ---- what the format and the lengths accept
+
+module _ (f : Format) (xs out : List ℕ) (l : Laid) (e : l ≡ laid f) (n : ℕ) (counted : n ≡ then_lengths l.number (length xs) (length out)) where
+  module _ (none : n ≡ 0) where
+    -- where the format and the lengths are accepted, the format has a code
+    has_code_lem : HasCode f
+    has_code_lem = accepted-has_code f (sym (laid_number f l e) ∙ number-accepted l.number (length xs) (length out) (sym counted ∙ none))
 
 -- ---- packing and unpacking by the format's layout
 

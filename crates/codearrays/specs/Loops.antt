@@ -1,14 +1,25 @@
--- What the loops look for and write: by a layout, and by any conversion of words that follows two rules. That this is what Codes.antt
+-- What the code decides before any word is looked at, and what its loops look for and write: by a layout, and by any conversion of
+-- words that follows two rules. That this is what Codes.antt
 -- says is what the proofs of the calls show. Assumes nothing.
 use Rattle.std.specs.Prelude.{◌≡◌, cond, List, map, ℕ, eqb, length, get_or, Result}
 use Rattle.std.specs.Result.{result_unwrap_or}
 use Rattle.refusals.specs.declared.Refusal.{Refusal}
 use Rattle.refusals.specs.Refusals.{refusal_number}
+use Rattle.grid.specs.declared.Format.{Format}
 use Rattle.layouts.specs.declared.Layout.{Layout}
+use Rattle.layouts.specs.Calls.{format_refusal}
+use Rattle.layouts.specs.Layouts.{Laid, layout, ready, refused}
 use Rattle.bylayout.specs.ByLayout.{packed_by, unpacked_by}
 use Rattle.reports.specs.declared.Report.{Report}
 use Rattle.reports.specs.Reports.{report, first_refused}
 use Rattle.codearrays.specs.Codes.{then_lengths}
+
+-- ---- what is decided
+
+-- the layout to pack or unpack by, or the number of the first refusal that applies, by the two lengths
+unfoldable pub decided : Format → ℕ → ℕ → Laid
+decided f inputs outputs =
+    cond (eqb (then_lengths (format_refusal f) inputs outputs) 0) (ready (layout f)) (refused (then_lengths (format_refusal f) inputs outputs))
 
 -- ---- by a layout
 

@@ -4,13 +4,10 @@ use mathlib.Core.Path.{◌≡◌, refl, sym, ap, ◌∙◌}
 use Prim.Native.Nat.{ℕ}
 use lib.Dec.{eqb}
 use borrow.Author.Tests.{eq-eqb, ne_eqb}
-use Rattle.refusals.specs.declared.Refusal.{Refusal}
-use Rattle.refusals.specs.Refusals.{number_of}
-use Rattle.refusals.proofs.Apart.{number_some}
 use Rattle.grid.specs.declared.Format.{Format}
 use Rattle.layouts.specs.declared.Layout.{Layout}
 use Rattle.layouts.specs.Calls.{format_refusal}
-use Rattle.layouts.specs.Layouts.{ready, refused, laid}
+use Rattle.layouts.specs.Layouts.{Laid, ready, laid}
 use Rattle.layouts.proofs.Layouts.{laid_number, laid_layout}
 use Rattle.layouts.proofs.Refusals.{accepted-has_code}
 use Rattle.bylayout.specs.Answers.{no_code, no_pattern}
@@ -39,18 +36,19 @@ module _ (f : Format) where
         ∙ unpacked_by-layout f (accepted-has_code f accepted) c
         ∙ sym (ap (λ (b : Bool). cond b (unpacked f c) (no_pattern (format_refusal f))) (eq-eqb (format_refusal f) 0 accepted))
 
-  -- where it is not, the answer has the refusal's number
-  module _ (d : Refusal) (e : refused (number_of d) ≡ laid f) where
-    number : number_of d ≡ format_refusal f
-    number = laid_number f (refused (number_of d)) e
+  -- where it is not, the answer has the refusal's number:
+  module _ (l : Laid) (e : l ≡ laid f) (some : l.number ≡ 0 → ⊥) where
+    not_accepted : eqb (format_refusal f) 0 ≡ false
+    not_accepted = ne_eqb (format_refusal f) 0 (λ (none : format_refusal f ≡ 0). some (laid_number f l e ∙ none))
 
-    some : eqb (format_refusal f) 0 ≡ false
-    some = ne_eqb (format_refusal f) 0 (λ (none : format_refusal f ≡ 0). number_some d (number ∙ none))
-
-    pub pack_refused_lem : (x : ℕ) → no_code (number_of d) ≡ pack_one f x
+    -- a pattern's answer is the refusal's number and no code,
+    pub pack_refused_lem : (x : ℕ) → no_code l.number ≡ pack_one f x
     unfolding pack_one
-    pack_refused_lem x = ap no_code number ∙ sym (ap (λ (b : Bool). cond b (packed f x) (no_code (format_refusal f))) some)
+    pack_refused_lem x =
+        ap no_code (laid_number f l e) ∙ sym (ap (λ (b : Bool). cond b (packed f x) (no_code (format_refusal f))) not_accepted)
 
-    pub unpack_refused : (c : ℕ) → no_pattern (number_of d) ≡ unpack_one f c
+    -- and a code's is the refusal's number and no pattern
+    pub unpack_refused : (c : ℕ) → no_pattern l.number ≡ unpack_one f c
     unfolding unpack_one
-    unpack_refused c = ap no_pattern number ∙ sym (ap (λ (b : Bool). cond b (unpacked f c) (no_pattern (format_refusal f))) some)
+    unpack_refused c =
+        ap no_pattern (laid_number f l e) ∙ sym (ap (λ (b : Bool). cond b (unpacked f c) (no_pattern (format_refusal f))) not_accepted)

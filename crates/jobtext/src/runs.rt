@@ -1,5 +1,5 @@
 // Running a job.
-ghost use Rattle.std.specs.Prelude.{cond, ◌≡◌, ◌+◌, ◌*◌, ◌≤◌, ◌<◌, length, get_or, replicate};
+ghost use Rattle.std.specs.Prelude.{cond, [], ◌≡◌, ◌+◌, ◌*◌, ◌≤◌, ◌<◌, length, get_or, replicate};
 ghost use Rattle.laws.specs.Lists.{tab, over};
 ghost use Rattle.jobs.specs.Reading.{job_of, words_in};
 ghost use Rattle.jobtext.specs.Runs.{answer_of, answer_to};
@@ -25,29 +25,40 @@ fn spread(values: &[u64; 2054], from: usize, apart: usize, out: &mut [u64])
     }
 }
 
-// The answer to the array call with these arguments.
-fn run_arrays(format: Format, mode: u64, r: u64, words: &[u64], xs: &[u64], ys: &mut [u64]) -> Page
-    requires { length ys.old ≤ 1024 }
-    ensures { result ≡ printed (reported format mode r words.now xs.now ys.old) (afterwards format mode r words.now xs.now ys.old) }
+// Prints the answer to the array call with these arguments.
+fn run_arrays(
+    format: Format,
+    mode: u64,
+    r: u64,
+    words: &[u64],
+    xs: &[u64],
+    ys: &mut [u64],
+    page: &mut Page,
+)
+    requires many { length ys.old ≤ 1024 }
+    requires empty { page.old ≡ [] }
+    ensures { page.new ≡ printed (reported format mode r words.now xs.now ys.old) (afterwards format mode r words.now xs.now ys.old) }
 {
     let outcome = round_array(format, mode, r, words, xs, ys);
-    print_outcome(outcome, ys)
+    print_outcome(outcome, ys, page);
 }
 
-// The answer to the job with these values, whose inputs lie so far apart.
+// Prints the answer to the job with these values, whose inputs lie so far apart.
 fn run_places(
     values: &[u64; 2054],
     apart: usize,
     xs: &mut [u64],
     ws: &mut [u64],
     ys: &mut [u64],
-) -> Page
+    page: &mut Page,
+)
     requires many { get_or values.now 5 0 ≤ 1024 }
     requires apart { apart ≡ cond (words_in values.now) 2 1 }
     requires inputs { length xs.old ≡ get_or values.now 5 0 }
     requires words { length ws.old ≡ cond (words_in values.now) (get_or values.now 5 0) 0 }
     requires outputs { ys.old ≡ replicate (get_or values.now 5 0) 0 }
-    ensures { result ≡ answer_of (job_of values.now) }
+    requires empty { page.old ≡ [] }
+    ensures { page.new ≡ answer_of (job_of values.now) }
 {
     let [p, emax, sub, mode, r, ..] = *values;
     let format = Format {
@@ -57,13 +68,14 @@ fn run_places(
     };
     spread(values, 6, apart, xs);
     spread(values, 7, 2, ws);
-    run_arrays(format, mode, r, ws, xs, ys)
+    run_arrays(format, mode, r, ws, xs, ys, page);
 }
 
-// The answer to the job with these values. Its arrays have room for the most inputs, since there is no heap.
-fn run_values(values: &[u64; 2054]) -> Page
-    requires { get_or values.now 5 0 ≤ 1024 }
-    ensures { result ≡ answer_of (job_of values.now) }
+// Prints the answer to the job with these values. Its arrays have room for the most inputs, since there is no heap.
+fn run_values(values: &[u64; 2054], page: &mut Page)
+    requires many { get_or values.now 5 0 ≤ 1024 }
+    requires empty { page.old ≡ [] }
+    ensures { page.new ≡ answer_of (job_of values.now) }
 {
     let [_, _, _, mode, _, count, ..] = *values;
     let n = count as usize;
@@ -71,20 +83,21 @@ fn run_values(values: &[u64; 2054]) -> Page
     let mut ws = [0u64; 1024];
     let mut ys = [0u64; 1024];
     if has_words(mode) {
-        run_places(values, 2, &mut xs[..n], &mut ws[..n], &mut ys[..n])
+        run_places(values, 2, &mut xs[..n], &mut ws[..n], &mut ys[..n], page);
     } else {
-        run_places(values, 1, &mut xs[..n], &mut [], &mut ys[..n])
+        run_places(values, 1, &mut xs[..n], &mut [], &mut ys[..n], page);
     }
 }
 
-// The answer to the text.
-fn print_answer(text: &[u8]) -> Page
-    ensures { result ≡ answer_to text.now }
+// Prints the answer to the text.
+fn print_answer(text: &[u8], page: &mut Page)
+    requires { page.old ≡ [] }
+    ensures { page.new ≡ answer_to text.now }
 {
     let mut values = [0u64; 2054];
     match read_job(text, &mut values) {
-        Ok(()) => run_values(&values),
-        Err(bad) => print_refused(Refusal::JobText, bad.line),
+        Ok(()) => run_values(&values, page),
+        Err(bad) => print_refused(Refusal::JobText, bad.line, page),
     }
 }
 
@@ -94,7 +107,8 @@ pub fn run_job(text: &[u8], out: &mut [u8]) -> usize
     ensures answer { result ≡ length (answer_to text.now) }
     ensures written { out.new ≡ over (answer_to text.now) out.old }
 {
-    let page = print_answer(text);
+    let mut page = Page::new();
+    print_answer(text, &mut page);
     let answer = page.bytes();
     lay_over(out, answer);
     answer.len()

@@ -81,6 +81,16 @@ module _ (base most : ℕ) (s : List ℕ) where
   pub none_below : 0 < base ^ 0
   none_below = subst (λ (n : ℕ). 0 < n) (sym (pow-zero base)) (lit< tt)
 
+  module _ (count : ℕ) (counted : run base most s ≡ count + run base (most - count) (drop count s)) where
+    module _ (next : ℕ) (is : next ≡ worth (get_or s count 0)) (within : count ≤ length s) (not-ended : count ≡ length s → ⊥) where
+      -- where `count` digits are read and the next byte is no digit in the base, all are read
+      pub digits_read_lem : base ≤ next → count ≡ run base most s
+      digits_read_lem high =
+          let over : run base (most - count) (drop count s) ≡ 0 =
+          ap (run base (most - count)) (drop_next s count (omega arith))
+          ∙ run_other base (most - count) (get_or s count 0) (drop (count + 1) s) (subst (λ (d : ℕ). base ≤ d) is high) in
+          omega arith
+
   module _ (n : ℕ) (least : n ≡ min (length s) most) where
     -- the bytes that are looked at
     looked : length (take n s) ≡ n

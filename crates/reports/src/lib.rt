@@ -39,9 +39,10 @@ impl From<Result<(), Refused>> for Report {
     fn from(outcome: Result<(), Refused>) -> Report {
         match outcome {
             Ok(()) => report_of(0),
+            // by `report_of`, which makes every report that has a number
             Err(refused) => Report {
-                number: refused.refusal.number(),
                 place: refused.place,
+                ..report_of(refused.refusal.number())
             },
         }
     }

@@ -1,14 +1,14 @@
 -- The words of a row, in the form in which the code comes to them. Assumes nothing.
-use Rattle.std.proofs.Common.{◌≡◌, ℕ, ◌-◌, ◌*◌, ◌/◌, ◌%◌, ◌^◌, ◌<◌, ◌≤◌, Bool, true, false, cond, eqb, refl, sym, ap, mod-eq_of_lt, le-ltb, lt-ltb, eq-eqb, ne_eqb}
+use Rattle.std.proofs.Common.{◌≡◌, ℕ, ◌+◌, ◌-◌, ◌*◌, ◌/◌, ◌%◌, ◌^◌, ◌<◌, ◌≤◌, Bool, true, false, cond, eqb, List, get_or, refl, sym, ap, mod-eq_of_lt, le-ltb, lt-ltb, eq-eqb, ne_eqb}
 use lib.Bits.{bit_and}
 use Rattle.laws.proofs.Words.{one_shifted}
 use Rattle.patterns.specs.Patterns.{infinity}
 use Rattle.magnitudes.specs.declared.Mode.{Mode}
 use Rattle.magnitudes.specs.declared.Mode.TheVariants.{TiesToEven, TiesToZero, TiesAway, TowardZero, TowardPlus, TowardMinus, ToOdd, Stochastic, EvenChance}
 use Rattle.magnitudes.specs.declared.Settings.{Settings}
-use Rattle.magnitudes.specs.Modes.{overflows}
+use Rattle.magnitudes.specs.Modes.{mode_of, overflows}
 use Rattle.magnitudes.specs.Increments.{increment}
-use Rattle.sweeps.specs.Rows.{bit_of, last_digit, adds_share, added_before, added_behind, added_by}
+use Rattle.sweeps.specs.Rows.{bit_of, last_digit, adds_share, added_before, added_behind, added_by, by_row}
 
 -- ---- the bit, where it is not always 0
 
@@ -100,3 +100,15 @@ no_share TowardMinus other = refl
 no_share ToOdd other = refl
 no_share (Stochastic r) other = absurd (other r refl)
 no_share EvenChance other = refl
+
+-- ---- a pattern rounded by a row
+
+-- what is worked out step by step from the row's words is the pattern rounded by the row, in the mode that a number and r name
+pub by_row_lem : (number r : ℕ) (rows : List ℕ) (place word x : ℕ) (mode : Mode) → mode ≡ mode_of number r
+    → (bit : ℕ) → bit ≡ bit_of mode word x (place % 64)
+    → (i : ℕ) → i ≡ added_by mode (get_or rows (8 * (place % 64) + 4 * bit + 1) 0) word (place % 64)
+    → (sum : ℕ) → sum ≡ (x + i) % 2 ^ 64
+    → (y : ℕ) → y ≡ (bit_and sum (get_or rows (8 * (place % 64) + 4 * bit) 0) + get_or rows (8 * (place % 64) + 4 * bit + 2) 0) % 2 ^ 64
+    → y ≡ by_row (mode_of number r) rows place word x
+unfolding by_row
+by_row_lem number r rows place word x mode named bit looked i share sum added y answer = simp (answer, added, share, looked, named)

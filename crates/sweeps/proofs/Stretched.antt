@@ -1,9 +1,10 @@
--- Sweeping a stretch of an array: a turn, and the end. Assumes nothing.
-use Rattle.std.proofs.Common.{◌≡◌, ℕ, ◌+◌, ◌/◌, ◌^◌, ◌<◌, true, eqb, List, arith, eqb-true}
+-- Sweeping a stretch of an array: a turn, the end, and the same by another number of its mode. Assumes nothing.
+use Rattle.std.proofs.Common.{◌≡◌, ℕ, ◌+◌, ◌/◌, ◌^◌, ◌<◌, true, eqb, List, subst, arith, eqb-true}
 use lib.Bits.{bit_or}
 use Rattle.laws.proofs.Words.{or_left_below, or_right_below}
 use Rattle.magnitudes.specs.declared.Mode.{Mode}
 use Rattle.magnitudes.specs.declared.Settings.{Settings}
+use Rattle.magnitudes.specs.Modes.{mode_of}
 use Rattle.sweeps.specs.declared.Limits.{Limits}
 use Rattle.sweeps.specs.declared.Swept.{Swept}
 use Rattle.sweeps.specs.Limits.{limits}
@@ -30,3 +31,9 @@ module _ (Done : Settings → ℕ → List ℕ → Type 0) (l : Limits) where
         → SweptTo Done l mode from i (unfit < 2 ^ 63) before after → SweptTo Done l mode from to (eqb (unfit / 2 ^ 63) 0 ≡ true) before after
     swept_all i to unfit after fewer swept =
         record { kept = swept.kept; right = λ s by named done all. fewer s (swept.right s by named done (let none = eqb-true (unfit / 2 ^ 63) 0 all in omega arith)) }
+
+  module _ (mode r from to : ℕ) (Fit : Type 0) (before after : List ℕ) where
+    -- what is swept by another number and r of the same mode is swept in the mode
+    by_number_lem : (n q : ℕ) → mode_of n q ≡ mode_of mode r → SweptTo Done l (mode_of n q) from to Fit before after
+        → SweptTo Done l (mode_of mode r) from to Fit before after
+    by_number_lem n q same swept = subst (λ (m : Mode). SweptTo Done l m from to Fit before after) same swept

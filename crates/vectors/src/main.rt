@@ -9,10 +9,11 @@
 mod rows;
 mod tallies;
 
+use rows::Draft;
 use std::fmt;
 use tallies::Tally;
 
-// How many blocks of 65,536 bytes are read at most: more than the rows fill.
+// How many blocks of 65,536 bytes are read: more than the rows fill.
 const BLOCKS: usize = 8;
 
 // Standard output, by the toolchain's io: what cannot be written is passed over.
@@ -26,26 +27,53 @@ impl fmt::Write for Out {
     }
 }
 
-// Writes each row that does not agree, and then the counts.
-fn write_counts(out: &mut impl fmt::Write, text: &[u8]) -> fmt::Result {
-    let mut lines = text.split(|byte| *byte == b'\n');
-    let unended = lines.next_back();
-    let mut tally = Tally::default();
-    for line in lines {
-        tally.count(out, line)?;
+// What is counted so far, and the row that is being read.
+#[derive(Clone, Copy, Debug, Default)]
+struct Reading {
+    tally: Tally,
+    draft: Draft,
+}
+
+impl Reading {
+    // One byte further: a line feed ends a row.
+    fn read_byte(&mut self, out: &mut impl fmt::Write, byte: u8) -> fmt::Result {
+        if byte == b'\n' {
+            self.tally.count(out, self.draft.row())?;
+            self.draft = Draft::default();
+        } else {
+            self.draft.push(byte);
+        }
+        Ok(())
     }
+
+    // One block of standard input further, which a read that fails or gives nothing ends. Each block has a
+    // buffer of its own, so that there is one at a time on the stack, and a row that does not agree is
+    // written before the next block is read.
+    fn read_block(&mut self, out: &mut impl fmt::Write) -> fmt::Result {
+        let mut buffer = io::large_buffer();
+        let got = io::read_full(0, &mut buffer);
+        for byte in &buffer[..got] {
+            self.read_byte(out, *byte)?;
+        }
+        Ok(())
+    }
+}
+
+// Writes each row that does not agree, and then the counts.
+fn write_counts(out: &mut impl fmt::Write) -> fmt::Result {
+    let mut reading = Reading::default();
+    for _ in 0..BLOCKS {
+        reading.read_block(out)?;
+    }
+    let Reading { mut tally, draft } = reading;
     // a last row that no line feed ends, unless nothing stands in it
-    if unended.is_some_and(|line| rows::letter_place(line).is_some()) {
+    if draft.is_begun() {
         tally.count_strange();
     }
     writeln!(out, "{tally}")
 }
 
 fn main() {
-    let mut blocks = [io::large_buffer(); BLOCKS];
-    let text = blocks.as_flattened_mut();
-    // A read that fails ends the text.
-    let length = io::read_full(0, text);
     // Out takes all that is written.
-    let _ = write_counts(&mut Out, &text[..length]);
+    let _ = write_counts(&mut Out);
 }

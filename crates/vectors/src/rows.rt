@@ -1,8 +1,6 @@
-// A row, read from its line.
-ghost use Rattle.std.specs.Prelude.{◌<◌, length, IfSome};
-
+// A row, read byte after byte.
 use refusals::Refusal;
-use std::{fmt, iter};
+use std::fmt;
 
 const BLANK: u8 = b' ';
 
@@ -27,7 +25,7 @@ impl Call {
 }
 
 // What a call answers: a number, and a code or pattern, which is 0 for a refused call.
-#[derive(Clone, Copy, Debug, PartialEq, Eq)]
+#[derive(Clone, Copy, Debug, Default, PartialEq, Eq)]
 pub(crate) struct Outcome {
     pub number: u64,
     pub answer: u64,
@@ -63,6 +61,39 @@ pub(crate) struct Row {
     pub due: Outcome,
 }
 
+// The fields of a row, in their order, and what no row has: from there on a row is strange, whatever follows.
+#[derive(Clone, Copy, Debug, Default, PartialEq, Eq)]
+enum Field {
+    #[default]
+    Call,
+    Precision,
+    Emax,
+    Sub,
+    Given,
+    Arrow,
+    Number,
+    Place,
+    Answer,
+    Beyond,
+}
+
+impl Field {
+    // The field behind this one.
+    fn next(self) -> Field {
+        match self {
+            Field::Call => Field::Precision,
+            Field::Precision => Field::Emax,
+            Field::Emax => Field::Sub,
+            Field::Sub => Field::Given,
+            Field::Given => Field::Arrow,
+            Field::Arrow => Field::Number,
+            Field::Number => Field::Place,
+            Field::Place => Field::Answer,
+            Field::Answer | Field::Beyond => Field::Beyond,
+        }
+    }
+}
+
 // What a digit is worth, by decimal or upper-case hexadecimal. The crate lines hands out whole lines, and no digit.
 fn worth(digit: u8) -> Option<u64> {
     match digit {
@@ -72,60 +103,85 @@ fn worth(digit: u8) -> Option<u64> {
     }
 }
 
-// The number with these digits in a base, modulo 2^64; none where a byte is no digit. Base 10 takes A to F
-// too, each for what it is worth.
-fn number(base: u64, digits: &[u8]) -> Option<u64> {
-    digits.iter().try_fold(0u64, |n, digit| {
-        Some(n.wrapping_mul(base).wrapping_add(worth(*digit)?))
-    })
+// A decimal number with one more digit, modulo 2^64; A to F are digits too, each for what it is worth.
+fn decimal(n: u64, digit: u64) -> u64 {
+    n.wrapping_mul(10).wrapping_add(digit)
 }
 
-fn decimal(digits: &[u8]) -> Option<u64> {
-    number(10, digits)
+// A hexadecimal number with one more digit, modulo 2^64.
+fn hexadecimal(n: u64, digit: u64) -> u64 {
+    n.wrapping_mul(16).wrapping_add(digit)
 }
 
-fn hexadecimal(digits: &[u8]) -> Option<u64> {
-    number(16, digits)
+// A row, as far as it is read: the call's first letter, the field that is being read, and the numbers. Its
+// bytes are not kept, since it may be as long as the input.
+#[derive(Clone, Copy, Debug, Default)]
+pub(crate) struct Draft {
+    letter: Option<u8>,
+    field: Field,
+    p: u64,
+    emax: u64,
+    sub: u64,
+    given: u64,
+    place: u64,
+    due: Outcome,
 }
 
-// Where the call's first letter stands: nothing but blanks and NULs stands before it.
-pub(crate) fn letter_place(line: &[u8]) -> Option<usize>
-    ensures { IfSome result (λ place. place < length line.now) }
-{
-    line.iter().position(|byte| *byte != BLANK && *byte != NUL)
-}
+impl Draft {
+    // One more byte: a blank ends a field, and the first byte that is neither blank nor NUL tells the call.
+    pub(crate) fn push(&mut self, byte: u8) {
+        match (byte, self.letter) {
+            (BLANK, _) => self.field = self.field.next(),
+            (NUL, None) => {}
+            (letter, None) => self.letter = Some(letter),
+            (rest, Some(_)) => self.push_rest(rest),
+        }
+    }
 
-impl Row {
-    // The row on a line; none where the line has no known form. The first letter tells the call, each blank
-    // ends a field, and of the call's name and the arrow no more is looked at.
-    pub(crate) fn parse(line: &[u8]) -> Option<Row> {
-        let (before, rest) = line.split_at(letter_place(line)?);
-        let (letter, rest) = rest.split_first()?;
-        let call = Call::named(*letter)?;
-        // Blanks before the letter end empty fields.
-        let empty = before.iter().filter(|byte| **byte == BLANK).count();
-        let fields = rest.split(|byte| *byte == BLANK);
-        let mut fields = iter::repeat_n(b"".as_slice(), empty).chain(fields);
-        let _name = fields.next()?;
-        let p = decimal(fields.next()?)?;
-        let emax = decimal(fields.next()?)?;
-        let sub = decimal(fields.next()?)?;
-        let given = hexadecimal(fields.next()?)?;
-        let _arrow = fields.next()?;
-        let number = decimal(fields.next()?)?;
-        let place = decimal(fields.next()?)?;
-        let answer = hexadecimal(fields.next()?)?;
-        if fields.next().is_some() {
+    // One more byte behind the letter. Of the call's name and the arrow no more is looked at; elsewhere what
+    // is no digit spoils the row.
+    fn push_rest(&mut self, byte: u8) {
+        if matches!(self.field, Field::Call | Field::Arrow) {
+            return;
+        }
+        match worth(byte) {
+            Some(digit) => self.push_digit(digit),
+            None => self.field = Field::Beyond,
+        }
+    }
+
+    // One more digit of the number that is being read.
+    fn push_digit(&mut self, digit: u64) {
+        match self.field {
+            Field::Precision => self.p = decimal(self.p, digit),
+            Field::Emax => self.emax = decimal(self.emax, digit),
+            Field::Sub => self.sub = decimal(self.sub, digit),
+            Field::Given => self.given = hexadecimal(self.given, digit),
+            Field::Number => self.due.number = decimal(self.due.number, digit),
+            Field::Place => self.place = decimal(self.place, digit),
+            Field::Answer => self.due.answer = hexadecimal(self.due.answer, digit),
+            Field::Call | Field::Arrow | Field::Beyond => {}
+        }
+    }
+
+    // Whether anything but blanks and NULs is read.
+    pub(crate) fn is_begun(&self) -> bool {
+        self.letter.is_some()
+    }
+
+    // The row, if it ends here; none where it has no known form.
+    pub(crate) fn row(&self) -> Option<Row> {
+        if self.field != Field::Answer {
             return None;
         }
         Some(Row {
-            call,
-            p,
-            emax,
-            sub,
-            given,
-            place,
-            due: Outcome { number, answer },
+            call: Call::named(self.letter?)?,
+            p: self.p,
+            emax: self.emax,
+            sub: self.sub,
+            given: self.given,
+            place: self.place,
+            due: self.due,
         })
     }
 }

@@ -66,9 +66,9 @@ impl Tally {
         self.strange = self.strange.wrapping_add(1);
     }
 
-    // One line more.
-    pub(crate) fn count(&mut self, out: &mut impl fmt::Write, line: &[u8]) -> fmt::Result {
-        let Some(row) = Row::parse(line) else {
+    // One row more; none is one of no known form.
+    pub(crate) fn count(&mut self, out: &mut impl fmt::Write, row: Option<Row>) -> fmt::Result {
+        let Some(row) = row else {
             self.count_strange();
             return Ok(());
         };

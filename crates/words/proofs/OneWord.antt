@@ -3,11 +3,11 @@ use mathlib.Core.Bool.{Bool, true, false}
 use mathlib.Core.List.{List, []}
 use mathlib.Core.Logic.{◌⊎◌, inl, inr}
 use mathlib.Core.Path.{◌≡◌, refl, sym, ap, ap₂, ◌∙◌, subst}
-use Prim.Native.Nat.{ℕ, zero, suc, ◌+◌, ◌*◌, ◌/◌, ◌%◌, ◌^◌, ◌≤◌, ◌<◌}
+use Prim.Native.Nat.{ℕ, zero, suc, ◌+◌, ◌-◌, ◌*◌, ◌/◌, ◌%◌, ◌^◌, ◌≤◌, ◌<◌}
 use native.Mathlib.Nat.{not-suc-le-zero, le_of_suc-le-suc, mul-zero, mul-suc, add_comm, zero-add, add-zero, div-one, mod-eq_of_lt}
 use native.Mathlib.Omega.{arith}
 use lib.Dec.{eqb}
-use lib.ListN.{length, get_or, set, take, drop, length-set}
+use lib.ListN.{length, get_or, set, take, drop, length-set, length-drop}
 use lib.Lanes.{put_chunk}
 use lib.Seq.{get_or-take, get_or-drop, drop-drop, get_or-set_same, get_or-set_other, ext_get_or}
 use mir.Syntax.{w64}
@@ -21,7 +21,7 @@ use Rattle.laws.specs.Lists.{tab, sum}
 use Rattle.laws.proofs.ByteDigits.{bytes_add_up}
 use Rattle.laws.proofs.Lists.{tab_alike}
 use Rattle.laws.proofs.Orders.{below_or_not}
-use Rattle.words.specs.Bytes.{word_at, words_of}
+use Rattle.words.specs.Bytes.{word_at, words_of, rest_of}
 use Rattle.words.proofs.WordLists.{length-words_of, get_or-words_of}
 
 -- ---- a word read
@@ -131,7 +131,26 @@ module _ (bs : List ℕ) (i w : ℕ) (there : i < length bs / 8) (small : w < 2 
           go false is isnt within before =
               other_word j (isnt refl) ∙ sym (get_or-words_of bs j before) ∙ sym (get_or-set_other (words_of bs) i j w 0 (isnt refl))
 
--- the bytes of a word, put in the place of the eight from byte 8·i on, put the word there
+  rest_after : rest_of after ≡ rest_of bs
+  unfolding rest_of
+  rest_after = ap (λ (n : ℕ). drop (8 * (n / 8)) after) long ∙ ext_get_or 0 (drop m after) (drop m bs) left same
+    where
+      m : ℕ
+      m = 8 * (length bs / 8)
+
+      long : length after ≡ length bs
+      long = length-put_chunk (8 * i) bs (to_le_bytes w64 w)
+
+      left : length (drop m after) ≡ length (drop m bs)
+      left = length-drop m after ∙ ap (λ (n : ℕ). n - m) long ∙ sym (length-drop m bs)
+
+      same : (k : ℕ) → k < length (drop m after) → get_or (drop m after) k 0 ≡ get_or (drop m bs) k 0
+      same k h =
+          get_or-drop m after k 0
+          ∙ get_or-put_chunk_above (8 * i) bs (to_le_bytes w64 w) (m + k) 0 (omega arith)
+          ∙ sym (get_or-drop m bs k 0)
+
+-- the bytes of a word, put in the place of the eight from byte 8·i on, put the word there,
 pub word_written : (bs : List ℕ) (i : ℕ) → i < length (words_of bs) → (w : ℕ) → w < 2 ^ 64 → (n : ℕ) → n ≡ 8
     → (part : List ℕ) → part ≡ to_le_bytes w64 w → words_of (put_mid (8 * i) n bs part) ≡ set (words_of bs) i w
 word_written bs i within w small n eight part is =
@@ -139,3 +158,12 @@ word_written bs i within w small n eight part is =
     ap₂ (λ (l : List ℕ) (m : ℕ). words_of (put_mid (8 * i) m bs l)) is eight
     ∙ ap words_of (sym (put_chunk_is (8 * i) bs (to_le_bytes w64 w) (omega (arith, there))))
     ∙ words_after bs i w there small
+
+-- and leave what stands behind the words as it was
+pub rest_kept : (bs : List ℕ) (i : ℕ) → i < length (words_of bs) → (w : ℕ) → w < 2 ^ 64 → (n : ℕ) → n ≡ 8
+    → (part : List ℕ) → part ≡ to_le_bytes w64 w → rest_of (put_mid (8 * i) n bs part) ≡ rest_of bs
+rest_kept bs i within w small n eight part is =
+    let there : i < length bs / 8 = subst (λ (m : ℕ). i < m) (length-words_of bs) within in
+    ap₂ (λ (l : List ℕ) (m : ℕ). rest_of (put_mid (8 * i) m bs l)) is eight
+    ∙ ap rest_of (sym (put_chunk_is (8 * i) bs (to_le_bytes w64 w) (omega (arith, there))))
+    ∙ rest_after bs i w there small

@@ -1,17 +1,17 @@
 -- Words and their bytes undo each other: the facts that are stated in specs/Facts.antt about the two. Assumes nothing.
 use mathlib.Core.Bool.{false}
-use mathlib.Core.List.{List}
-use mathlib.Core.Path.{◌≡◌, sym, ap, ◌∙◌, subst}
+use mathlib.Core.List.{List, ◌++◌}
+use mathlib.Core.Path.{◌≡◌, sym, ap, ap₂, ◌∙◌, subst}
 use Prim.Native.Nat.{ℕ, ◌+◌, ◌*◌, ◌/◌, ◌%◌, ◌^◌, ◌<◌}
 use native.Mathlib.Nat.{mod-eq_of_lt}
 use native.Mathlib.Omega.{arith}
-use lib.ListN.{length, get_or}
-use lib.Seq.{ext_get_or}
+use lib.ListN.{length, get_or, take, drop, take-append-drop}
+use lib.Seq.{get_or-take, length-take-le, take_all, ext_get_or}
 use Rattle.laws.specs.Bytes.{byte_of}
 use Rattle.laws.specs.Lists.{sum}
 use Rattle.laws.proofs.Lists.{length-tab, get_or-tab, tab_alike}
-use Rattle.words.specs.Bytes.{byte_by, bytes_of, word_at, words_of, ragged}
-use Rattle.words.specs.Facts.{AllBelow, EightBytesAWord, BytesAreBytes, WordsAreWords, WordsOfBytes, BytesOfWords}
+use Rattle.words.specs.Bytes.{byte_by, bytes_of, word_at, words_of, rest_of, ragged}
+use Rattle.words.specs.Facts.{AllBelow, EightBytesAWord, BytesAreBytes, WordsAreWords, WordsOfBytes, BytesOfWords, BytesOfWordsAndRest}
 use Rattle.words.proofs.WordLists.{length-words_of, get_or-words_of, byte_of-word, not_ragged}
 use Rattle.laws.proofs.ByteDigits.{byte_below, bytes_add_up, bytes_make_below, bytes_made}
 
@@ -79,28 +79,43 @@ words_are_words bs small i h =
     let within : i < length bs / 8 = subst (λ (n : ℕ). i < n) (length-words_of bs) h in
     subst (λ (w : ℕ). w < 2 ^ 64) (sym (get_or-words_of bs i within)) (word_below bs small i within)
 
-pub bytes_of_words : BytesOfWords
+-- the bytes of the words among bytes are those in front of what is left
+whole_bytes : (bs : List ℕ) → AllBelow 256 bs → bytes_of (words_of bs) ≡ take (8 * (length bs / 8)) bs
 unfolding byte_by
-bytes_of_words bs small whole = ext_get_or 0 (bytes_of (words_of bs)) bs many same
+whole_bytes bs small = ext_get_or 0 (bytes_of (words_of bs)) (take (8 * (length bs / 8)) bs) (many ∙ sym taken) same
   where
-    eight : 8 * length (words_of bs) ≡ length bs
-    eight =
-        let words = length-words_of bs in
-        let none = not_ragged (length bs) whole in
-        omega arith
+    taken : length (take (8 * (length bs / 8)) bs) ≡ 8 * (length bs / 8)
+    taken = length-take-le (8 * (length bs / 8)) bs (omega arith)
 
-    many : length (bytes_of (words_of bs)) ≡ length bs
-    many = length-bytes_of (words_of bs) ∙ eight
+    many : length (bytes_of (words_of bs)) ≡ 8 * (length bs / 8)
+    many = length-bytes_of (words_of bs) ∙ ap (λ (n : ℕ). 8 * n) (length-words_of bs)
 
-    same : (k : ℕ) → k < length (bytes_of (words_of bs)) → get_or (bytes_of (words_of bs)) k 0 ≡ get_or bs k 0
+    same : (k : ℕ) → k < length (bytes_of (words_of bs)) → get_or (bytes_of (words_of bs)) k 0 ≡ get_or (take (8 * (length bs / 8)) bs) k 0
     same k h =
         let within : k < 8 * length (words_of bs) = subst (λ (n : ℕ). k < n) (length-bytes_of (words_of bs)) h in
-        let words = length-words_of bs in
+        let before : k < 8 * (length bs / 8) = subst (λ (n : ℕ). k < n) many h in
         let word : k / 8 < length bs / 8 = omega arith in
         get_or-bytes_of (words_of bs) k within
         ∙ ap (λ (w : ℕ). byte_of w (k % 8)) (get_or-words_of bs (k / 8) word)
         ∙ byte_of_made bs small (k / 8) word (k % 8) (omega arith)
         ∙ ap (λ (j : ℕ). get_or bs j 0) (omega arith)
+        ∙ sym (get_or-take (8 * (length bs / 8)) bs k 0 before)
+
+pub bytes_of_words : BytesOfWords
+bytes_of_words bs small whole =
+    let none = not_ragged (length bs) whole in whole_bytes bs small ∙ take_all (8 * (length bs / 8)) bs (omega arith)
+
+pub bytes_of_words_and_rest : BytesOfWordsAndRest
+unfolding rest_of
+bytes_of_words_and_rest bs small =
+    ap (λ (l : List ℕ). l ++ drop (8 * (length bs / 8)) bs) (whole_bytes bs small) ∙ take-append-drop (8 * (length bs / 8)) bs
+
+-- so bytes are known by their words and what is left behind these
+pub same_words_and_rest : (bs cs : List ℕ) → AllBelow 256 bs → AllBelow 256 cs → words_of bs ≡ words_of cs → rest_of bs ≡ rest_of cs → bs ≡ cs
+same_words_and_rest bs cs small below words rest =
+    sym (bytes_of_words_and_rest bs small)
+    ∙ ap₂ (λ (ws left : List ℕ). bytes_of ws ++ left) words rest
+    ∙ bytes_of_words_and_rest cs below
 
 -- bytes whose words are known are the bytes of those words, where none is left over
 pub are_bytes_of : (bs : List ℕ) → ((i : ℕ) → get_or bs i 0 < 256) → ragged (length bs) ≡ false → (ws : List ℕ) → words_of bs ≡ ws → bs ≡ bytes_of ws

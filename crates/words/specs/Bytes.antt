@@ -1,5 +1,5 @@
 -- Words among bytes: eight bytes a word, the low byte first (document 01, "What the product covers"). Assumes nothing.
-use Rattle.std.specs.Prelude.{Bool, not, ◌||◌, List, ℕ, ◌+◌, ◌*◌, ◌/◌, ◌%◌, ◌^◌, eqb, length, get_or}
+use Rattle.std.specs.Prelude.{Bool, not, ◌||◌, List, ℕ, ◌+◌, ◌*◌, ◌/◌, ◌%◌, ◌^◌, eqb, length, get_or, drop}
 use Rattle.laws.specs.Bytes.{byte_of}
 use Rattle.laws.specs.Lists.{tab, sum}
 
@@ -18,6 +18,10 @@ word_at bs i = sum (tab 8 (λ (k : ℕ). get_or bs (8 * i + k) 0 * 256 ^ k))
 -- the whole words among bytes: what is left behind them counts for nothing
 unfoldable pub words_of : List ℕ → List ℕ
 words_of bs = tab (length bs / 8) (word_at bs)
+
+-- and what is left behind them: up to seven bytes
+unfoldable pub rest_of : List ℕ → List ℕ
+rest_of bs = drop (8 * (length bs / 8)) bs
 
 -- a length that is no whole number of words
 unfoldable pub ragged : ℕ → Bool

@@ -1,6 +1,6 @@
 -- What holds of words among bytes (document 01, "What the product covers"), as whole statements. Assumes nothing.
-use Rattle.std.specs.Prelude.{false, List, ◌≡◌, ℕ, ◌*◌, ◌^◌, ◌<◌, length, get_or}
-use Rattle.words.specs.Bytes.{bytes_of, words_of, ragged}
+use Rattle.std.specs.Prelude.{false, List, ◌++◌, ◌≡◌, ℕ, ◌*◌, ◌^◌, ◌<◌, length, get_or}
+use Rattle.words.specs.Bytes.{bytes_of, words_of, rest_of, ragged}
 
 -- every entry of a list is below n
 abbrev pub AllBelow : ℕ → List ℕ → Type 0
@@ -27,3 +27,7 @@ WordsOfBytes = (ws : List ℕ) → AllBelow (2 ^ 64) ws → words_of (bytes_of w
 -- and the bytes of the words among bytes are those bytes, where none is left over
 abbrev pub BytesOfWords : Type 0
 BytesOfWords = (bs : List ℕ) → AllBelow 256 bs → ragged (length bs) ≡ false → bytes_of (words_of bs) ≡ bs
+
+-- with what is left behind those words they are all of the bytes
+abbrev pub BytesOfWordsAndRest : Type 0
+BytesOfWordsAndRest = (bs : List ℕ) → AllBelow 256 bs → bytes_of (words_of bs) ++ rest_of bs ≡ bs

@@ -1,7 +1,7 @@
 // Words among bytes: eight bytes a word, the low one first.
 ghost use Rattle.std.specs.Prelude.{◌≡◌, length};
 ghost use Rattle.std.specs.Int.{w64, to_le_bytes};
-ghost use Rattle.words.specs.Bytes.{words_of};
+ghost use Rattle.words.specs.Bytes.{words_of, rest_of};
 
 use super::Entry;
 
@@ -20,6 +20,8 @@ fn put_bytes(eight: &mut [u8], word: u64)
 impl Entry for u8 {
     ghost words = { words_of };
 
+    ghost rest = { rest_of };
+
     #[inline(always)]
     fn count(bytes: &[u8]) -> usize {
         bytes.len() / 8
@@ -28,12 +30,18 @@ impl Entry for u8 {
     #[inline(always)]
     fn word_at(bytes: &[u8], i: usize) -> u64 {
         let (words, _) = bytes.as_chunks::<8>();
-        u64::from_le_bytes(words[i])
+        if i < Self::count(bytes) {
+            u64::from_le_bytes(words[i])
+        } else {
+            0
+        }
     }
 
     #[inline(always)]
     fn put(bytes: &mut [u8], i: usize, word: u64) {
-        let at = 8 * i;
-        put_bytes(&mut bytes[at..at + 8], word);
+        if i < Self::count(bytes) {
+            let at = 8 * i;
+            put_bytes(&mut bytes[at..at + 8], word);
+        }
     }
 }

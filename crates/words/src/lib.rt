@@ -2,7 +2,7 @@
 // contracts cite the definitions in specs/; start with specs/Lib.antt.
 #![tactic(auto)]
 
-ghost use Rattle.std.specs.Prelude.{◌≡◌, ◌<◌, ℕ, List, length, get_or, set};
+ghost use Rattle.std.specs.Prelude.{◌≡◌, ℕ, List, length, get_or, set};
 
 mod bytes;
 mod whole;
@@ -12,17 +12,19 @@ pub trait Entry: Copy {
     // the words in an array
     ghost words: { List Self → List ℕ };
 
+    // what stands behind the last word
+    ghost rest: { List Self → List Self };
+
     // Returns how many words there are.
     fn count(entries: &[Self]) -> usize
         ensures { result ≡ length (words entries.now) };
 
-    // Returns word i.
+    // Returns word i, or 0 where there are fewer.
     fn word_at(entries: &[Self], i: usize) -> u64
-        requires { i < length (words entries.now) }
         ensures { result ≡ get_or (words entries.now) i 0 };
 
-    // Puts a word in the place of word i.
+    // Puts a word in the place of word i, if there is one. Nothing else changes.
     fn put(entries: &mut [Self], i: usize, word: u64)
-        requires { i < length (words entries.old) }
-        ensures { words entries.new ≡ set (words entries.old) i word };
+        ensures written { words entries.new ≡ set (words entries.old) i word }
+        ensures rest { rest entries.new ≡ rest entries.old };
 }

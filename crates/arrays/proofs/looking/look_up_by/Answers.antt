@@ -10,4 +10,5 @@ loop-i-preserved g c =
       search stored_long,
       one_more_made c.args.t.now.settings (words inputs.words.now) (words inputs.xs.now) (words c.loop-i.out) c.loop-i.i (search rules) (search rules)
           c.args.stretch.end (search rules) c.requires.ends c.round_at.result (search rules) (words c.put.new.entries) (search rules),
+      search rules,
     )

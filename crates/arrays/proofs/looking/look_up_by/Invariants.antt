@@ -9,3 +9,4 @@ abbrev pub invariant-loop-i : goal.invariant-loop-i
 invariant-loop-i g l =
     (length (g.T.Entry.words l.out) ≡ length (g.T.Entry.words l.inputs.xs.now))
     × FilledTo (rounded_by_at l.t.settings (g.T.Entry.words l.inputs.words.now) (g.T.Entry.words l.inputs.xs.now)) l.i (g.T.Entry.words l.out)
+    × (g.T.Entry.rest l.out ≡ g.T.Entry.rest l.initial.out)

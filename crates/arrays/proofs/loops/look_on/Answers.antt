@@ -18,19 +18,19 @@ pub loop-i-smaller-then-sweep : goal.loop-i-smaller-then-sweep
 loop-i-smaller-then-sweep g c = search fewer_left
 
 pub loop-i-preserved-then-sweep : goal.loop-i-preserved-then-sweep
-loop-i-preserved-then-sweep g c = (search ends_within, search rules, search rounded_if_true)
+loop-i-preserved-then-sweep g c = (search ends_within, search rules, search rounded_if_true, search rules)
 
 pub loop-i-smaller-else-sweep : goal.loop-i-smaller-else-sweep
 loop-i-smaller-else-sweep g c = search fewer_left
 
 pub loop-i-preserved-else-sweep : goal.loop-i-preserved-else-sweep
-loop-i-preserved-else-sweep g c = (search ends_within, search rules, search rules)
+loop-i-preserved-else-sweep g c = (search ends_within, search rules, search rules, search rules)
 
 pub loop-i-smaller : goal.loop-i-smaller
 loop-i-smaller g c = search fewer_left
 
 pub loop-i-preserved : goal.loop-i-preserved
-loop-i-preserved g c = (search ends_within, search rules, search rules)
+loop-i-preserved g c = (search ends_within, search rules, search rules, search rules)
 
-pub returns : goal.returns
-returns g c = search all_rounded
+pub returns-clause-written : goal.returns-clause-written
+returns-clause-written g c = search all_rounded

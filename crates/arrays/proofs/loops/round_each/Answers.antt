@@ -1,11 +1,21 @@
 -- `arrays::loops::round_each` meets its contract. Assumes nothing.
-use native.Mathlib.Nat.{le_of_eq}
+use native.Mathlib.Nat.{le_refl}
+use lib.ListN.{length}
 use borrow.Author.Rules.{rules}
 use Rattle.arrays.proofs.Turns.{stored_long, one_more_rounded, all_rounded}
 use Rattle.arrays.proofs.loops.round_each.Goals as goal
 
 pub loop-i-preserved : goal.loop-i-preserved
-loop-i-preserved g c = (search rules, search stored_long, search (one_more_rounded, le_of_eq))
+loop-i-preserved g c =
+    let words = g.T.Entry.words in
+    let inputs = c.args.inputs.now in (
+      search rules,
+      search stored_long,
+      one_more_rounded c.args.s (words inputs.words.now) (words inputs.xs.now) (words c.loop-i.out) c.loop-i.i (search rules) (search rules)
+          (length (words inputs.xs.now)) (search rules) (le_refl (length (words inputs.xs.now))) c.word_at.result (search rules) c.word_at-in-loop-i.result (search rules)
+          c.round_by.result (search rules) (words c.put.new.entries) (search rules),
+      search rules,
+    )
 
-pub returns : goal.returns
-returns g c = search (all_rounded, rules)
+pub returns-clause-written : goal.returns-clause-written
+returns-clause-written g c = search (all_rounded, rules)

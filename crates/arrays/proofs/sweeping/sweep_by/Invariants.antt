@@ -11,3 +11,4 @@ invariant-loop-i g l =
     (l.fn.stretch.start ≤ l.i) × (length (g.T.Entry.words l.out) ≡ length (g.T.Entry.words l.inputs.xs.now))
     × SweptTo (RoundedTo (g.T.Entry.words l.inputs.words.now) (g.T.Entry.words l.inputs.xs.now)) l.l l.mode l.fn.stretch.start l.i (l.unfit < 2 ^ 63)
     (g.T.Entry.words l.initial.out) (g.T.Entry.words l.out)
+    × (g.T.Entry.rest l.out ≡ g.T.Entry.rest l.initial.out)

@@ -10,3 +10,4 @@ abbrev pub invariant-loop-i : goal.invariant-loop-i
 invariant-loop-i g l =
     (length (g.T.Entry.words l.out) ≡ length (g.T.Entry.words l.xs))
     × ((refuses writes : ℕ → ℕ) → Follows (goal.F-post g l.convert) refuses writes → FilledTo (of_entry writes (g.T.Entry.words l.xs)) l.i (g.T.Entry.words l.out))
+    × (g.T.Entry.rest l.out ≡ g.T.Entry.rest l.initial.out)
