@@ -11,9 +11,9 @@ loop-i-preserved g c =
     let inputs = c.args.inputs.now in (
       search rules,
       search stored_long,
-      one_more_rounded c.args.s (words inputs.words.now) (words inputs.xs.now) (words c.loop-i.out) c.loop-i.i (search rules) (search rules)
-          (length (words inputs.xs.now)) (search rules) (le_refl (length (words inputs.xs.now))) c.word_at.result (search rules) c.word_at-in-loop-i.result (search rules)
-          c.round_by.result (search rules) (words c.put.new.entries) (search rules),
+      search
+          (one_more_rounded c.args.s (words inputs.words.now) (words inputs.xs.now) (words c.loop-i.out) c.loop-i.i (search rules) (search rules)
+          (length (words inputs.xs.now)) (search rules) (le_refl (length (words inputs.xs.now)))),
       search rules,
     )
 
